@@ -1,0 +1,6 @@
+pub mod Runs
+pub mod Tied
+pub mod Play
+pub mod Alike
+pub mod Placed
+pub mod Spells

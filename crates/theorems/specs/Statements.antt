@@ -1,0 +1,147 @@
+-- The theorems of demands 2 and 3, as statements about the answer functions of the rules (`read`, `respell`, `find`), for every
+-- list of bytes, width list and query. The proofs stand in `proofs/`. Assumes nothing.
+use Prim.Native.Nat.{ℕ, _+_, _<_, _≤_}
+use mathlib.Core.Bool.{Bool, true, false}
+use mathlib.Core.List.{List, [], _∷_, _++_, map}
+use mathlib.Core.Path.{_≡_}
+use lib.ListN.{length, take, drop}
+use Rattle.rules.specs.Act.{Act, glyph, Cmd, just, word, pair}
+use Rattle.rules.specs.Scan.{commands, bare}
+use Rattle.rules.specs.State.{Spot, corner, Paint, noPaint, Glyph, Item}
+use Rattle.rules.specs.Record.{GlyphRow, ItemRow, Answer, refuse, answer}
+use Rattle.rules.specs.Find.{Wanted, Query, wellFormed, query}
+use Rattle.rules.specs.Answers.{read, isAccepted, Spelling, spelled, respell, Found, notFound, found, keyOf, find}
+use Rattle.reading.specs.Outline.{Mark, marksOf, outline}
+use Rattle.finding.specs.Occurs.{QueryShape, OccursAt, Elem, Rising}
+
+-- "A stream is accepted where, with its width list, no reason but 13 is against it"
+abbrev pub Accepted : List ℕ → List ℕ → Type 0
+Accepted s list = isAccepted (read s list) ≡ true
+
+-- ---- demand 2: "whenever it gives one, reading it yields the same glyphs, drawings, controls, pages and end position, and
+-- rewriting it changes nothing"
+
+-- what the reader yields, places in the stream aside: a glyph has all that its record holds and the bytes of its name; a drawing
+-- or control has its letters and arguments, page, h and v
+abbrev pub glyphsIn : Answer → List Glyph
+glyphsIn (refuse n at) = []
+glyphsIn (answer rs xs e) = map (λ (r : GlyphRow). r .glyph) rs
+
+abbrev pub rowsIn : Answer → List GlyphRow
+rowsIn (refuse n at) = []
+rowsIn (answer rs xs e) = rs
+
+abbrev pub itemsIn : Answer → List Item
+itemsIn (refuse n at) = []
+itemsIn (answer rs xs e) = map (λ (x : ItemRow). x .item) xs
+
+abbrev pub pagesIn : Answer → ℕ
+pagesIn (refuse n at) = 0
+pagesIn (answer rs xs e) = e .ordinal
+
+abbrev pub endIn : Answer → Spot
+endIn (refuse n at) = corner
+endIn (answer rs xs e) = e .spot
+
+abbrev pub glyphPaintIn : Answer → Paint
+glyphPaintIn (refuse n at) = noPaint
+glyphPaintIn (answer rs xs e) = e .glyphPaint
+
+abbrev pub fillPaintIn : Answer → Paint
+fillPaintIn (refuse n at) = noPaint
+fillPaintIn (answer rs xs e) = e .fillPaint
+
+pub record SameReading (a b : Answer) : Type 0 where
+  pub glyphs : glyphsIn a ≡ glyphsIn b
+  pub drawings-and-controls : itemsIn a ≡ itemsIn b
+  pub pages : pagesIn a ≡ pagesIn b
+  pub end-position : endIn a ≡ endIn b
+  pub glyph-colour : glyphPaintIn a ≡ glyphPaintIn b
+  pub fill-colour : fillPaintIn a ≡ fillPaintIn b
+
+pub record ReadAgain (s list t : List ℕ) : Type 0 where
+  pub stream-accepted : Accepted s list
+  pub spelling-accepted : Accepted t list
+  pub same : SameReading (read t list) (read s list)
+
+abbrev pub RoundTrip : Type 0
+RoundTrip = (s list t : List ℕ) → respell s list ≡ spelled t → ReadAgain s list t
+
+abbrev pub FixedPoint : Type 0
+FixedPoint = (s list t : List ℕ) → respell s list ≡ spelled t → respell t list ≡ spelled t
+
+-- ---- "name (its place and length in the stream)": the bytes at a record's place are its name
+
+abbrev pub nameIn : List ℕ → GlyphRow → List ℕ
+nameIn s r = take (length (r .glyph .name)) (drop (r .place) s)
+
+abbrev pub NamesIn : List ℕ → List GlyphRow → Type 0
+NamesIn s [] = Unit {0}
+NamesIn s (r ∷ rs) = (nameIn s r ≡ r .glyph .name) × NamesIn s rs
+
+abbrev pub NamesOf : List ℕ → Answer → Type 0
+NamesOf s (refuse n at) = Unit {0}
+NamesOf s (answer rs xs e) = NamesIn s rs
+
+abbrev pub NamesStand : Type 0
+NamesStand = (s list : List ℕ) → NamesOf s (read s list)
+
+-- ---- demand 3: "the number of every record at which the query occurs by 01's rule, each once, earliest first, no other"
+
+-- the records are the reader's, the numbers are rising, each is one at which the query occurs, and each of those is there
+pub record Exact (s list q : List ℕ) (rs : List GlyphRow) (is : List ℕ) : Type 0 where
+  pub glyphs : List Wanted
+  pub asked : query q ≡ wellFormed glyphs
+  pub shape : QueryShape glyphs
+  pub records : rowsIn (read s list) ≡ rs
+  pub rising : Rising is
+  pub only : (i : ℕ) → Elem i is → OccursAt glyphs (map keyOf rs) i
+  pub every : (i : ℕ) → OccursAt glyphs (map keyOf rs) i → Elem i is
+  pub below : (i : ℕ) → Elem i is → i < length rs
+
+abbrev pub Exactness : Type 0
+Exactness = (s list q : List ℕ) (rs : List GlyphRow) (is : List ℕ) → find s list q ≡ found rs is → Exact s list q rs is
+
+-- what the finder tells of a stream: a refusal; or the list, and how many records there are
+pub data Told : Type 0 where
+  refusedAt : ℕ → ℕ → Told
+  listed : List ℕ → ℕ → Told
+
+abbrev pub told : Found → Told
+told (notFound n at) = refusedAt n at
+told (found rs is) = listed is (length rs)
+
+-- ---- "whichever of t, u, c, C or the two-digit form set a one-byte name"
+
+-- The commands of a stream. Their outline has the names, gaps and pages alone.
+abbrev pub cmdsOf : List ℕ → List Cmd
+cmdsOf s = bare (commands 0 0 s)
+
+abbrev pub ByOutline : Type 0
+ByOutline = (s list s′ list′ : List ℕ) → Accepted s list → Accepted s′ list′ → outline (cmdsOf s) ≡ outline (cmdsOf s′)
+    → (q : List ℕ) → told (find s list q) ≡ told (find s′ list′ q)
+
+-- a command may stand for another of the same outline, anywhere; a word or two digits have the outline of single glyphs
+abbrev pub single : ℕ → Cmd
+single b = just (glyph (b ∷ []))
+
+pub record ByAnyCommand : Type 0 where
+  pub by-outline : ByOutline
+  pub swap : (xs ys : List Cmd) (c c′ : Cmd) → marksOf c ≡ marksOf c′ → outline (xs ++ c ∷ ys) ≡ outline (xs ++ c′ ∷ ys)
+  pub by-word : (n b : ℕ) → marksOf (word n (b ∷ [])) ≡ marksOf (single b)
+  pub by-two-digits : (n b : ℕ) → marksOf (pair n b) ≡ marksOf (single b)
+  pub word-by-glyphs : (n : ℕ) (bs : List ℕ) (cs : List Cmd) → outline (word n bs ∷ cs) ≡ outline (map single bs ++ cs)
+
+-- ---- "two accepted streams with equally many records, alike in name bytes, gap mark and page ordinal, give every well-formed
+-- query the same answer"
+
+abbrev pub Alike : List ℕ → List GlyphRow → List ℕ → List GlyphRow → Type 0
+Alike s [] s′ [] = Unit {0}
+Alike s [] s′ (r′ ∷ rs′) = ⊥
+Alike s (r ∷ rs) s′ [] = ⊥
+Alike s (r ∷ rs) s′ (r′ ∷ rs′) =
+    (nameIn s r ≡ nameIn s′ r′) × (r .glyph .gap ≡ r′ .glyph .gap) × (r .glyph .ordinal ≡ r′ .glyph .ordinal) × Alike s rs s′ rs′
+
+abbrev pub Likeness : Type 0
+Likeness = (s list s′ list′ : List ℕ) → Accepted s list → Accepted s′ list′ → Alike s (rowsIn (read s list)) s′ (rowsIn (read s′ list′))
+    → (q : List ℕ) → told (find s list q) ≡ told (find s′ list′ q)

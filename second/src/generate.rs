@@ -1,0 +1,79 @@
+//! Generated inputs: the same case for the same seed, always.
+
+pub mod damage;
+pub mod list;
+pub mod outline;
+pub mod query;
+pub mod random;
+pub mod stream;
+
+use crate::refusal::{Rooms, LIST_LIMIT, QUERY_LIMIT, STREAM_LIMIT};
+use random::Random;
+use stream::Manner;
+
+/// The inputs of all three routines.
+#[derive(Clone, Debug, PartialEq, Eq)]
+pub struct Case {
+    pub stream: Vec<u8>,
+    pub list: Vec<u8>,
+    pub query: Vec<u8>,
+    pub rooms: Rooms,
+}
+
+/// The case of a seed: mostly sound, else with numbers near their limits, with slips, damaged,
+/// with little room or, seldom, too long.
+pub fn case(seed: u64) -> Case {
+    let mut random = Random::new(seed);
+    let kind = random.below(100);
+    let manner = Manner { edges: (40..55).contains(&kind), slips: (55..67).contains(&kind) };
+    let mut case = sound_case(&mut random, manner);
+    match kind {
+        67..=94 => damage_case(&mut random, &mut case),
+        95..=99 if random.once_in(10) => lengthen(&mut random, &mut case),
+        _ => {}
+    }
+    if random.once_in(8) {
+        case.rooms = little_room(&mut random);
+    }
+    case
+}
+
+/// A case whose stream, list and query were made by the rules.
+pub fn sound_case(random: &mut Random, manner: Manner) -> Case {
+    let (list, fonts) = list::sound_list(random);
+    let stream = stream::stream(random, &fonts, manner);
+    let query = query::query(random, &stream, &list);
+    Case { stream, list, query, rooms: Rooms::default() }
+}
+
+fn damage_case(random: &mut Random, case: &mut Case) {
+    match random.below(8) {
+        0 => damage::damage(random, &mut case.list),
+        1 => damage::damage(random, &mut case.query),
+        2 => {
+            damage::damage(random, &mut case.stream);
+            damage::damage(random, &mut case.list);
+            damage::damage(random, &mut case.query);
+        }
+        _ => damage::damage(random, &mut case.stream),
+    }
+}
+
+/// Makes one of the inputs just too long, or as long as allowed.
+fn lengthen(random: &mut Random, case: &mut Case) {
+    let more = random.below(2);
+    match random.below(40) {
+        0 => case.stream.resize(STREAM_LIMIT + more, b'\n'),
+        1..=19 => case.list.resize(LIST_LIMIT + more, b'\n'),
+        _ => case.query.resize(QUERY_LIMIT + more, b'\n'),
+    }
+}
+
+fn little_room(random: &mut Random) -> Rooms {
+    Rooms {
+        records: random.below(30),
+        entries: random.below(16),
+        hits: random.below(6),
+        spelling: random.below(500),
+    }
+}

@@ -1,0 +1,54 @@
+//! Sound width lists.
+
+use super::random::Random;
+
+/// A font of a generated list: its name and the bytes that have a width.
+pub struct ListFont {
+    pub name: Vec<u8>,
+    pub bytes: Vec<u8>,
+}
+
+/// Bytes that glyphs are made of.
+pub const GLYPH_BYTES: [u8; 14] = *b"abcde#5-0+\x00\x80\xff~";
+
+const FONT_NAMES: [&[u8]; 7] = [b"TR", b"TI", b"R", b"F#1", b"\x00\xfe", b"a=b", &[b'n'; 64]];
+
+/// A sound list, and what it holds. Its first font has a width for every glyph byte.
+pub fn sound_list(random: &mut Random) -> (Vec<u8>, Vec<ListFont>) {
+    let unitwidth = *random.pick(&[1, 2, 3, 7, 10, 1000, 1000, 1000, 100_000]);
+    let mut list = format!("unitwidth={unitwidth}\n").into_bytes();
+    let mut fonts = Vec::new();
+    let count = 1 + random.below(4);
+    let first = random.below(FONT_NAMES.len());
+    for number in 0..count {
+        let name = FONT_NAMES[(first + number) % FONT_NAMES.len()].to_vec();
+        let bytes = if number == 0 { rising(&GLYPH_BYTES) } else { some_bytes(random) };
+        list.extend([b"font=", &name[..], b"\n"].concat());
+        bytes.iter().for_each(|byte| list.extend(pair(random, *byte).bytes()));
+        fonts.push(ListFont { name, bytes });
+    }
+    (list, fonts)
+}
+
+fn pair(random: &mut Random, byte: u8) -> String {
+    let width = match random.below(8) {
+        0 => 0,
+        1 => 100_000,
+        2 => random.between(0, 100_000),
+        _ => random.between(1, 60),
+    };
+    format!("byte={byte}\nwidth={width}\n")
+}
+
+fn rising(bytes: &[u8]) -> Vec<u8> {
+    let mut bytes = bytes.to_vec();
+    bytes.sort_unstable();
+    bytes.dedup();
+    bytes
+}
+
+fn some_bytes(random: &mut Random) -> Vec<u8> {
+    let count = random.below(6);
+    let bytes: Vec<u8> = (0..count).map(|_| *random.pick(&GLYPH_BYTES)).collect();
+    rising(&bytes)
+}

@@ -1,0 +1,87 @@
+//! 01, "Refusal numbers and their order".
+
+/// A refusal: its number in 01's table and the offset that goes with it.
+#[derive(Clone, Copy, Debug, PartialEq, Eq)]
+pub struct Refusal {
+    pub number: u8,
+    pub offset: usize,
+}
+
+pub const TOO_LONG: u8 = 1;
+pub const WIDTH_LIST: u8 = 2;
+pub const UNKNOWN: u8 = 3;
+pub const MALFORMED: u8 = 4;
+pub const SURPLUS: u8 = 5;
+pub const OUTSIDE_LIMIT: u8 = 6;
+pub const OUT_OF_ORDER: u8 = 7;
+pub const NO_FONT: u8 = 8;
+pub const NO_WIDTH: u8 = 9;
+pub const OUT_OF_REACH: u8 = 10;
+pub const NO_STOP: u8 = 11;
+pub const QUERY: u8 = 12;
+pub const NO_ROOM: u8 = 13;
+
+pub const STREAM_LIMIT: usize = 16_777_216;
+pub const LIST_LIMIT: usize = 65_536;
+pub const QUERY_LIMIT: usize = 8_192;
+pub const SPELLING_LIMIT: usize = 16_777_216;
+
+/// The room a caller lends. Only the rooms a routine is lent bind it.
+#[derive(Clone, Copy, Debug, PartialEq, Eq)]
+pub struct Rooms {
+    pub records: usize,
+    pub entries: usize,
+    pub hits: usize,
+    pub spelling: usize,
+}
+
+impl Default for Rooms {
+    fn default() -> Self {
+        Rooms { records: usize::MAX, entries: usize::MAX, hits: usize::MAX, spelling: usize::MAX }
+    }
+}
+
+/// `Ok` where `holds`, else the refusal number.
+pub fn require(holds: bool, number: u8) -> Result<(), u8> {
+    if holds {
+        Ok(())
+    } else {
+        Err(number)
+    }
+}
+
+/// 1: "stream over 16,777,216 bytes, list over 65,536 [, query over 8,192]; offset 0".
+pub fn check_sizes(stream: &[u8], list: &[u8], query: &[u8]) -> Result<(), Refusal> {
+    let fits = stream.len() <= STREAM_LIMIT && list.len() <= LIST_LIMIT && query.len() <= QUERY_LIMIT;
+    require(fits, TOO_LONG).map_err(at(0))
+}
+
+/// 13: "need more room than lent [...]; offset 0".
+pub fn check_room(fits: bool) -> Result<(), Refusal> {
+    require(fits, NO_ROOM).map_err(at(0))
+}
+
+/// Makes a refusal of a number, for `map_err`.
+pub fn at(offset: usize) -> impl Fn(u8) -> Refusal {
+    move |number| Refusal { number, offset }
+}
+
+/// The reason in words, after 01's table.
+pub fn reason(number: u8) -> &'static str {
+    match number {
+        TOO_LONG => "the stream is over 16,777,216 bytes, the list over 65,536 or the query over 8,192",
+        WIDTH_LIST => "wrong or missing line in the width list",
+        UNKNOWN => "unknown command, `D`, `DF`, `m` or `x` letter, or none",
+        MALFORMED => "argument missing or malformed, or none or an odd number for `Dp`, `DP`, `D~`",
+        SURPLUS => "other bytes before the line break of `D` or `x`",
+        OUTSIDE_LIMIT => "number, count, name or text outside its limit",
+        OUT_OF_ORDER => "out of order: prologue, first `p` or `x s`",
+        NO_FONT => "`f` to an unmounted position, or a glyph or `N` without current font and size",
+        NO_WIDTH => "no width for a byte of `t` or `u`",
+        OUT_OF_REACH => "h or v beyond 99,999,999",
+        NO_STOP => "no `x s`",
+        QUERY => "wrong line in the query, or an empty query",
+        NO_ROOM => "records, entries, hits or spelling need more room than lent, or the spelling is over 16,777,216 bytes",
+        _ => "unknown refusal",
+    }
+}

@@ -1,0 +1,316 @@
+//! The vector files: inputs with expected answers, parsed and run against a program.
+//! The format is described in README.md and at the top of each file.
+
+use crate::print::{found_text, glyphs_text};
+use crate::refusal::{Refusal, Rooms};
+use crate::{find, read, respell};
+
+/// What stands before and behind the fragment of a `body` case.
+pub const BODY_HEAD: &[u8] = b"x T ps\nx res 72000 1 1\nx init\np1\nx font 1 TR\nf1\ns10000\n";
+pub const BODY_TAIL: &[u8] = b"\nx stop\n";
+/// The house spelling of `BODY_HEAD`.
+pub const SPELT_HEAD: &[u8] = b"x T ps\nx r 72000 1 1\nx i\np 1\nx f 1 TR\nf 1\ns 10000\n";
+/// The sample list of 01, for cases without a `list` line.
+pub const SAMPLE_LIST: &[u8] = b"unitwidth=1000\nfont=TR\nbyte=97\nwidth=44\nbyte=98\nwidth=50\n";
+
+/// A program under test: each routine answers the text of FORMATS or a refusal.
+pub trait Program {
+    fn glyphs(&self, stream: &[u8], list: &[u8], rooms: Rooms) -> Result<Vec<u8>, Refusal>;
+    fn respell(&self, stream: &[u8], list: &[u8], rooms: Rooms) -> Result<Vec<u8>, Refusal>;
+    fn find(&self, stream: &[u8], list: &[u8], query: &[u8], rooms: Rooms) -> Result<Vec<u8>, Refusal>;
+}
+
+/// The second program itself.
+pub struct Second;
+
+impl Program for Second {
+    fn glyphs(&self, stream: &[u8], list: &[u8], rooms: Rooms) -> Result<Vec<u8>, Refusal> {
+        read(stream, list, rooms).map(|reading| glyphs_text(stream, &reading))
+    }
+
+    fn respell(&self, stream: &[u8], list: &[u8], rooms: Rooms) -> Result<Vec<u8>, Refusal> {
+        respell(stream, list, rooms)
+    }
+
+    fn find(&self, stream: &[u8], list: &[u8], query: &[u8], rooms: Rooms) -> Result<Vec<u8>, Refusal> {
+        find(stream, list, query, rooms).map(|found| found_text(&found))
+    }
+}
+
+#[derive(Clone, Copy, Debug, PartialEq, Eq)]
+pub enum Routine {
+    Reader,
+    Rewriter,
+    Finder,
+}
+
+/// `None`: accepted.
+pub type Answer = Option<Refusal>;
+
+#[derive(Clone, Debug, PartialEq, Eq)]
+pub enum Check {
+    /// the routine's answer, accepted or refused
+    Answer(Routine, Answer),
+    /// the routine's whole text
+    Text(Routine, Vec<u8>),
+    /// a line of the reader's text, its newline aside
+    Has(Vec<u8>),
+}
+
+/// One case: the inputs and what is expected of them.
+#[derive(Clone, Debug, Default)]
+pub struct Case {
+    pub name: String,
+    pub stream: Vec<u8>,
+    pub list: Vec<u8>,
+    pub query: Option<Vec<u8>>,
+    pub rooms: Rooms,
+    pub checks: Vec<Check>,
+}
+
+/// Parses a vector file. Blocks of lines `key value`, parted by blank lines.
+pub fn parse(text: &str) -> Result<Vec<Case>, String> {
+    let mut blocks: Vec<Vec<(usize, &str)>> = vec![Vec::new()];
+    for (number, line) in text.lines().enumerate().filter(|(_, line)| !line.starts_with('#')) {
+        match blocks.last_mut() {
+            Some(block) if !line.is_empty() => block.push((number + 1, line)),
+            _ => blocks.push(Vec::new()),
+        }
+    }
+    blocks.iter().filter(|block| !block.is_empty()).map(|block| parse_block(block)).collect()
+}
+
+/// The lines of one block, as they are gathered.
+#[derive(Default)]
+struct Block {
+    name: Option<String>,
+    body: Option<Vec<u8>>,
+    stream: Option<Vec<u8>>,
+    list: Option<Vec<u8>>,
+    query: Option<Vec<u8>>,
+    rooms: Rooms,
+    /// `glyphs`, `respell`, `spelt`, `find` texts, several lines of one key joined
+    texts: Vec<(String, Vec<u8>)>,
+    /// `expect`, `reader`, `rewriter`, `finder` with their answers
+    answers: Vec<(String, Answer)>,
+    has: Vec<Vec<u8>>,
+}
+
+fn parse_block(lines: &[(usize, &str)]) -> Result<Case, String> {
+    let mut block = Block::default();
+    for (number, line) in lines {
+        block.take(line).map_err(|message| format!("line {number}: {message}: {line}"))?;
+    }
+    let first_line = lines[0].0;
+    block.finish().map_err(|message| format!("block at line {first_line}: {message}"))
+}
+
+impl Block {
+    fn take(&mut self, line: &str) -> Result<(), String> {
+        let (key, value) = line.split_once(' ').unwrap_or((line, ""));
+        match key {
+            "case" => self.name = Some(value.to_string()),
+            "body" => join(&mut self.body, &unescape(value)?),
+            "stream" => join(&mut self.stream, &unescape(value)?),
+            "list" => join(&mut self.list, &unescape(value)?),
+            "query" => join(&mut self.query, &unescape(value)?),
+            "records" => self.rooms.records = parse_number(value)?,
+            "entries" => self.rooms.entries = parse_number(value)?,
+            "hits" => self.rooms.hits = parse_number(value)?,
+            "spelling" => self.rooms.spelling = parse_number(value)?,
+            "expect" | "reader" | "rewriter" | "finder" => {
+                self.answers.push((key.to_string(), parse_answer(value)?));
+            }
+            "has" => self.has.push(unescape(value)?),
+            "glyphs" | "respell" | "spelt" | "find" => self.take_text(key, &unescape(value)?),
+            _ => return Err("unknown key".to_string()),
+        }
+        Ok(())
+    }
+
+    fn take_text(&mut self, key: &str, text: &[u8]) {
+        match self.texts.iter_mut().find(|(known, _)| known == key) {
+            Some((_, joined)) => joined.extend(text),
+            None => self.texts.push((key.to_string(), text.to_vec())),
+        }
+    }
+
+    fn finish(self) -> Result<Case, String> {
+        let (stream, base) = match (&self.body, &self.stream) {
+            (Some(body), None) => ([BODY_HEAD, body, BODY_TAIL].concat(), BODY_HEAD.len()),
+            (None, Some(stream)) => (stream.clone(), 0),
+            _ => return Err("needs a body or a stream".to_string()),
+        };
+        let checks = self.checks(base)?;
+        Ok(Case {
+            name: self.name.ok_or("needs a name")?,
+            stream,
+            list: self.list.unwrap_or(SAMPLE_LIST.to_vec()),
+            query: self.query,
+            rooms: self.rooms,
+            checks,
+        })
+    }
+
+    fn checks(&self, base: usize) -> Result<Vec<Check>, String> {
+        let mut checks = Vec::new();
+        for (key, answer) in &self.answers {
+            let answer = answer.map(|refusal| from_fragment(refusal, base));
+            let routines = self.routines(key);
+            checks.extend(routines.into_iter().map(|routine| Check::Answer(routine, answer)));
+        }
+        for (key, text) in &self.texts {
+            checks.push(match key.as_str() {
+                "glyphs" => Check::Text(Routine::Reader, text.clone()),
+                "respell" => Check::Text(Routine::Rewriter, text.clone()),
+                "find" => Check::Text(Routine::Finder, text.clone()),
+                _ => Check::Text(Routine::Rewriter, [SPELT_HEAD, text].concat()),
+            });
+        }
+        checks.extend(self.has.iter().map(|line| Check::Has(line.clone())));
+        if checks.is_empty() {
+            return Err("expects nothing".to_string());
+        }
+        Ok(checks)
+    }
+
+    fn routines(&self, key: &str) -> Vec<Routine> {
+        match key {
+            "reader" => vec![Routine::Reader],
+            "rewriter" => vec![Routine::Rewriter],
+            "finder" => vec![Routine::Finder],
+            _ if self.query.is_some() => vec![Routine::Reader, Routine::Rewriter, Routine::Finder],
+            _ => vec![Routine::Reader, Routine::Rewriter],
+        }
+    }
+}
+
+fn join(value: &mut Option<Vec<u8>>, more: &[u8]) {
+    value.get_or_insert_with(Vec::new).extend(more);
+}
+
+/// In a `body` case the offset of a refusal about the stream counts from the fragment's start.
+fn from_fragment(refusal: Refusal, base: usize) -> Refusal {
+    let is_about_stream = (3..=11).contains(&refusal.number);
+    let offset = if is_about_stream { refusal.offset + base } else { refusal.offset };
+    Refusal { offset, ..refusal }
+}
+
+fn parse_number(value: &str) -> Result<usize, String> {
+    value.parse().map_err(|_| "wrong number".to_string())
+}
+
+/// `ok` or `refused NUMBER OFFSET`
+fn parse_answer(value: &str) -> Result<Answer, String> {
+    let words: Vec<&str> = value.split(' ').collect();
+    match words[..] {
+        ["ok"] => Ok(None),
+        ["refused", number, offset] => Ok(Some(Refusal {
+            number: number.parse().map_err(|_| "wrong refusal number")?,
+            offset: parse_number(offset)?,
+        })),
+        _ => Err("wrong answer".to_string()),
+    }
+}
+
+/// `\n`, `\t`, `\\`, `\s` (space), `\xHH` and the repetition `\{BYTES*COUNT}`.
+pub fn unescape(text: &str) -> Result<Vec<u8>, String> {
+    let mut bytes = Vec::new();
+    let mut rest = text;
+    while let Some((plain, escaped)) = rest.split_once('\\') {
+        bytes.extend(plain.bytes());
+        rest = take_escape(escaped, &mut bytes)?;
+    }
+    bytes.extend(rest.bytes());
+    Ok(bytes)
+}
+
+/// Takes one escape, its backslash aside, and returns what stands behind it.
+fn take_escape<'a>(escaped: &'a str, bytes: &mut Vec<u8>) -> Result<&'a str, String> {
+    let letter = escaped.chars().next().ok_or("lone backslash")?;
+    let rest = &escaped[letter.len_utf8()..];
+    match letter {
+        'n' => bytes.push(b'\n'),
+        't' => bytes.push(b'\t'),
+        's' => bytes.push(b' '),
+        '\\' => bytes.push(b'\\'),
+        'x' => {
+            let digits = rest.get(..2).ok_or("short \\x")?;
+            bytes.push(u8::from_str_radix(digits, 16).map_err(|_| "wrong \\x")?);
+            return Ok(&rest[2..]);
+        }
+        '{' => {
+            let (repetition, rest) = rest.split_once('}').ok_or("open repetition")?;
+            let (part, count) = repetition.split_once('*').ok_or("repetition without count")?;
+            bytes.extend(unescape(part)?.repeat(parse_number(count)?));
+            return Ok(rest);
+        }
+        _ => return Err(format!("unknown escape {letter}")),
+    }
+    Ok(rest)
+}
+
+/// Runs one case; the message of a failure names the case, what was expected and what came.
+pub fn run(case: &Case, program: &dyn Program) -> Result<(), String> {
+    case.checks
+        .iter()
+        .try_for_each(|check| run_check(case, check, program))
+        .map_err(|message| format!("case {}: {message}", case.name))
+}
+
+fn run_check(case: &Case, check: &Check, program: &dyn Program) -> Result<(), String> {
+    match check {
+        Check::Answer(routine, expected) => {
+            let answer = run_routine(case, *routine, program).err();
+            agree(answer == *expected, routine, format!("{expected:?}"), format!("{answer:?}"))
+        }
+        Check::Text(routine, expected) => {
+            let answer = run_routine(case, *routine, program);
+            let agrees = answer.as_ref() == Ok(expected);
+            agree(
+                agrees,
+                routine,
+                shown(expected),
+                answer.map_or_else(|r| format!("{r:?}"), |text| shown(&text)),
+            )
+        }
+        Check::Has(line) => {
+            let text =
+                run_routine(case, Routine::Reader, program).map_err(|refusal| format!("{refusal:?}"))?;
+            let has = text.split(|&byte| byte == b'\n').any(|known| known == line);
+            agree(has, &Routine::Reader, shown(line), shown(&text))
+        }
+    }
+}
+
+fn agree(agrees: bool, routine: &Routine, expected: String, came: String) -> Result<(), String> {
+    if agrees {
+        return Ok(());
+    }
+    Err(format!("{routine:?}: expected\n{expected}\ncame\n{came}"))
+}
+
+fn run_routine(case: &Case, routine: Routine, program: &dyn Program) -> Result<Vec<u8>, Refusal> {
+    match routine {
+        Routine::Reader => program.glyphs(&case.stream, &case.list, case.rooms),
+        Routine::Rewriter => program.respell(&case.stream, &case.list, case.rooms),
+        Routine::Finder => {
+            let query = case.query.as_deref().unwrap_or_default();
+            program.find(&case.stream, &case.list, query, case.rooms)
+        }
+    }
+}
+
+fn shown(text: &[u8]) -> String {
+    text[..text.len().min(4000)].escape_ascii().to_string().replace("\\n", "\n")
+}
+
+/// Runs every case of a file; all failures, or the number of cases.
+pub fn run_all(text: &str, program: &dyn Program) -> Result<usize, String> {
+    let cases = parse(text)?;
+    let failures: Vec<String> = cases.iter().filter_map(|case| run(case, program).err()).collect();
+    if failures.is_empty() {
+        return Ok(cases.len());
+    }
+    Err(format!("{} of {} cases fail\n{}", failures.len(), cases.len(), failures.join("\n")))
+}

@@ -1,0 +1,298 @@
+//! What must hold of every input, tried on generated ones.
+
+use second::find::{read_query, QueryGlyph};
+use second::generate::outline::{outline, write_outline, OUTLINE_LIST};
+use second::generate::random::Random;
+use second::generate::stream::Manner;
+use second::generate::{case, sound_case, Case};
+use second::same::same_readings;
+use second::{find, read, respell, Reading, Record, Refusal, Rooms};
+
+/// Seeds for the counts of refusals, and for the other properties.
+const MANY_SEEDS: u64 = 100_000;
+const SEEDS: u64 = 40_000;
+const NO_LIMIT: Rooms =
+    Rooms { records: usize::MAX, entries: usize::MAX, hits: usize::MAX, spelling: usize::MAX };
+
+/// The accepted cases among the first `count` seeds, with their readings.
+fn accepted(count: u64) -> impl Iterator<Item = (u64, Case, Reading)> {
+    (0..count).filter_map(|seed| {
+        let case = case(seed);
+        let reading = read(&case.stream, &case.list, NO_LIMIT).ok()?;
+        Some((seed, case, reading))
+    })
+}
+
+#[test]
+fn a_case_depends_on_its_seed_alone() {
+    for seed in 0..200 {
+        assert_eq!(case(seed), case(seed), "seed {seed}");
+    }
+    assert_ne!(case(1).stream, case(2).stream);
+}
+
+#[test]
+fn sound_cases_are_accepted_but_for_reach() {
+    for seed in 0..20_000 {
+        let case = sound_case(&mut Random::new(seed), Manner::default());
+        let refusal = find(&case.stream, &case.list, &case.query, NO_LIMIT).err();
+        let is_expected = refusal.is_none_or(|refusal| refusal.number == 10 || refusal.number == 12);
+        assert!(is_expected, "seed {seed}: {refusal:?}\n{}", case.stream.escape_ascii());
+    }
+}
+
+/// The letters of the lines of a spelling, `x` and `D` with theirs; `+` lines aside.
+fn letters_of(spelling: &[u8]) -> impl Iterator<Item = Vec<u8>> + '_ {
+    let lines = spelling.split(|&byte| byte == b'\n').filter(|line| !line.is_empty() && line[0] != b'+');
+    lines.map(|line| match line[0] {
+        b'x' => line[..3].to_vec(),
+        _ => line.split(|&byte| byte == b' ').next().unwrap_or_default().to_vec(),
+    })
+}
+
+#[test]
+fn every_command_is_generated() {
+    let mut counts = std::collections::BTreeMap::new();
+    let mut lengths = Vec::new();
+    for (_, case, _) in accepted(20_000) {
+        lengths.push(case.stream.len());
+        let spelling = respell(&case.stream, &case.list, NO_LIMIT).unwrap();
+        letters_of(&spelling).for_each(|letters| *counts.entry(letters).or_insert(0) += 1);
+    }
+    lengths.sort_unstable();
+    println!("length of the middle stream: {}", lengths[lengths.len() / 2]);
+    let all = "c C N H V p f s mc md mg mk mr n w Dl Da Dc DC De DE Dp DP D~ Dt Df DFc DFd DFg DFk DFr";
+    let controls = ["x T", "x r", "x i", "x F", "x f", "x H", "x S", "x p", "x t", "x u", "x s", "x X"];
+    for letters in all.split(' ').chain(controls) {
+        let count = counts.get(letters.as_bytes()).copied().unwrap_or(0);
+        assert!(count > 100, "{letters}: {count}");
+    }
+    assert_eq!(counts.len(), 31 + controls.len());
+}
+
+#[test]
+fn every_refusal_comes_and_a_third_is_accepted() {
+    let mut counts = [[0u32; 14]; 3];
+    for seed in 0..MANY_SEEDS {
+        let Case { stream, list, query, rooms } = case(seed);
+        let numbers = [
+            read(&stream, &list, rooms).err(),
+            respell(&stream, &list, rooms).err(),
+            find(&stream, &list, &query, rooms).err(),
+        ];
+        for (routine, refusal) in numbers.iter().enumerate() {
+            counts[routine][refusal.map_or(0, |refusal| usize::from(refusal.number))] += 1;
+        }
+    }
+    for (routine, counts) in ["reader", "rewriter", "finder"].iter().zip(&counts) {
+        println!("{routine}: accepted {}, refused 1 to 13: {:?}", counts[0], &counts[1..]);
+        assert!(u64::from(counts[0]) * 3 >= MANY_SEEDS, "{routine} accepts {}", counts[0]);
+    }
+    assert!(counts[2].iter().all(|&count| count > 0), "finder: {:?}", counts[2]);
+    for routine in &counts[..2] {
+        assert_eq!(routine[12], 0);
+        assert!((1..=13).filter(|&number| number != 12).all(|number| routine[number] > 0));
+    }
+}
+
+#[test]
+fn a_refusal_has_its_offset() {
+    for seed in 0..SEEDS {
+        let Case { stream, list, query, rooms } = case(seed);
+        let Err(Refusal { number, offset }) = find(&stream, &list, &query, rooms) else {
+            continue;
+        };
+        let is_command = stream.get(offset).is_some_and(|byte| !b" \t\n".contains(byte));
+        let is_line = |bytes: &[u8]| offset == 0 || bytes.get(offset - 1) == Some(&b'\n');
+        let fits = match number {
+            1 | 13 => offset == 0,
+            2 => is_line(&list),
+            3..=10 => is_command,
+            11 => offset == stream.len(),
+            12 => is_line(&query) && (offset < query.len() || query.is_empty()),
+            _ => false,
+        };
+        assert!(fits, "seed {seed}: {number} at {offset}");
+    }
+}
+
+/// What stands before a command at fault is sound: alone it lacks only `x s`.
+#[test]
+fn all_before_a_faulty_command_is_sound() {
+    for seed in 0..SEEDS {
+        let Case { stream, list, .. } = case(seed);
+        let Err(Refusal { number: 3..=10, offset }) = read(&stream, &list, NO_LIMIT) else {
+            continue;
+        };
+        let before = read(&stream[..offset], &list, NO_LIMIT).err();
+        let expected = Some(Refusal { number: 11, offset });
+        assert!(before == expected || before.is_none(), "seed {seed}: {before:?} for {offset}");
+    }
+}
+
+#[test]
+fn the_routines_refuse_alike() {
+    for seed in 0..SEEDS {
+        let Case { stream, list, query, .. } = case(seed);
+        let reader = read(&stream, &list, NO_LIMIT).err();
+        assert_eq!(respell(&stream, &list, NO_LIMIT).err(), reader, "seed {seed}");
+        let finder = find(&stream, &list, &query, NO_LIMIT).err();
+        let is_query = finder.is_some_and(|refusal| refusal.number == 12 || refusal.number == 1);
+        assert!(is_query || finder == reader, "seed {seed}: {finder:?} {reader:?}");
+    }
+}
+
+#[test]
+fn the_spelling_reads_the_same() {
+    let mut count = 0;
+    for (seed, case, reading) in accepted(SEEDS) {
+        let spelling = respell(&case.stream, &case.list, NO_LIMIT).unwrap();
+        let other = read(&spelling, &case.list, NO_LIMIT)
+            .unwrap_or_else(|refusal| panic!("seed {seed}: {refusal:?}"));
+        assert!(same_readings(&case.stream, &reading, &spelling, &other), "seed {seed}");
+        count += 1;
+    }
+    println!("{count} streams");
+    assert!(count > SEEDS / 3);
+}
+
+#[test]
+fn the_spelling_is_a_fixed_point() {
+    for (seed, case, _) in accepted(SEEDS) {
+        let spelling = respell(&case.stream, &case.list, NO_LIMIT).unwrap();
+        assert_eq!(respell(&spelling, &case.list, NO_LIMIT).as_ref(), Ok(&spelling), "seed {seed}");
+    }
+}
+
+/// A spelling has no freedom left: only its own commands, one a line, and no motion in vain.
+#[test]
+fn the_spelling_has_the_house_form() {
+    for (seed, case, _) in accepted(20_000) {
+        let spelling = respell(&case.stream, &case.list, NO_LIMIT).unwrap();
+        assert!(spelling.ends_with(b"\nx s\n"), "seed {seed}");
+        for line in spelling.split(|&byte| byte == b'\n') {
+            let is_free =
+                matches!(line.first(), Some(b'#' | b'h' | b'v' | b't' | b'u' | b' ' | b'\t' | b'0'..=b'9'));
+            assert!(!is_free, "seed {seed}: {}", line.escape_ascii());
+        }
+    }
+}
+
+/// 01's rule for finding, once more: glyph k of the query against record i + k.
+fn occurs_at(stream: &[u8], records: &[Record], query: &[QueryGlyph], i: usize) -> bool {
+    for k in 0..query.len() {
+        if i + k >= records.len() {
+            return false;
+        }
+        let record = records[i + k];
+        let name = &stream[record.place as usize..(record.place + record.length) as usize];
+        let has_gap_as_asked = k == 0 || record.gap == query[k].gap;
+        if record.ordinal != records[i].ordinal || name != query[k].name || !has_gap_as_asked {
+            return false;
+        }
+    }
+    true
+}
+
+#[test]
+fn the_hits_are_those_of_the_rule() {
+    let mut hit_count = 0;
+    for (seed, case, reading) in accepted(SEEDS) {
+        let Ok(query) = read_query(&case.query) else {
+            continue;
+        };
+        let Ok(found) = find(&case.stream, &case.list, &case.query, NO_LIMIT) else {
+            continue;
+        };
+        let all = 0..reading.records.len();
+        let hits: Vec<usize> =
+            all.filter(|&i| occurs_at(&case.stream, &reading.records, &query, i)).collect();
+        assert_eq!(found.records, reading.records, "seed {seed}");
+        assert_eq!(found.hits, hits, "seed {seed}");
+        hit_count += hits.len();
+    }
+    println!("{hit_count} hits");
+    assert!(hit_count > 10_000);
+}
+
+#[test]
+fn the_spelling_has_the_same_hits() {
+    for (seed, case, _) in accepted(SEEDS) {
+        let Ok(found) = find(&case.stream, &case.list, &case.query, NO_LIMIT) else {
+            continue;
+        };
+        let spelling = respell(&case.stream, &case.list, NO_LIMIT).unwrap();
+        let other = find(&spelling, &case.list, &case.query, NO_LIMIT).unwrap();
+        assert_eq!(found.hits, other.hits, "seed {seed}");
+    }
+}
+
+#[test]
+fn hits_do_not_depend_on_the_commands_used() {
+    let queries: [&[u8]; 5] = [
+        b"glyph=a\n",
+        b"glyph=a\nglyph=a\n",
+        b"glyph=a\nglyph=b\nglyph=a\n",
+        b"glyph=a\ngap=any\nglyph=a\n",
+        b"glyph=a\nglyph='e\n",
+    ];
+    let mut hit_count = 0;
+    for seed in 0..5_000 {
+        let outline = outline(&mut Random::new(seed));
+        let mut random = Random::new(seed + 1_000_000);
+        let ways: Vec<Vec<u8>> = (0..4).map(|_| write_outline(&mut random, &outline)).collect();
+        for query in queries {
+            let hits_of =
+                |stream: &Vec<u8>| find(stream, OUTLINE_LIST, query, NO_LIMIT).map(|found| found.hits);
+            let hits = hits_of(&ways[0]).unwrap();
+            hit_count += hits.len();
+            for way in &ways[1..] {
+                assert_eq!(hits_of(way).as_ref(), Ok(&hits), "seed {seed}: {}", way.escape_ascii());
+            }
+        }
+    }
+    println!("{hit_count} hits");
+    assert!(hit_count > 10_000);
+}
+
+const NO_ROOM: Option<Refusal> = Some(Refusal { number: 13, offset: 0 });
+const NOTHING: Rooms = Rooms { records: 0, entries: 0, hits: 0, spelling: 0 };
+
+/// Exactly enough room is accepted, one place less is 13 at 0.
+#[test]
+fn the_reader_judges_room_to_the_place() {
+    for (seed, case, reading) in accepted(20_000) {
+        let refusal = |records, entries| {
+            let rooms = Rooms { records, entries, ..NOTHING };
+            read(&case.stream, &case.list, rooms).err()
+        };
+        let (records, entries) = (reading.records.len(), reading.entries.len());
+        assert_eq!(refusal(records, entries), None, "seed {seed}");
+        assert_eq!(refusal(records, entries - 1), NO_ROOM, "seed {seed}");
+        assert!(records == 0 || refusal(records - 1, entries) == NO_ROOM, "seed {seed}");
+    }
+}
+
+#[test]
+fn the_rewriter_judges_room_to_the_place() {
+    for (seed, case, _) in accepted(20_000) {
+        let refusal = |spelling| respell(&case.stream, &case.list, Rooms { spelling, ..NOTHING }).err();
+        let length = respell(&case.stream, &case.list, NO_LIMIT).unwrap().len();
+        assert_eq!((refusal(length), refusal(length - 1)), (None, NO_ROOM), "seed {seed}");
+    }
+}
+
+#[test]
+fn the_finder_judges_room_to_the_place() {
+    for (seed, case, reading) in accepted(20_000) {
+        let Ok(found) = find(&case.stream, &case.list, &case.query, NO_LIMIT) else { continue };
+        let refusal = |records, hits| {
+            let rooms = Rooms { records, hits, ..NOTHING };
+            find(&case.stream, &case.list, &case.query, rooms).err()
+        };
+        let (records, hits) = (reading.records.len(), found.hits.len());
+        assert_eq!(refusal(records, hits), None, "seed {seed}");
+        assert!(hits == 0 || refusal(records, hits - 1) == NO_ROOM, "seed {seed}");
+        assert!(records == 0 || refusal(records - 1, hits) == NO_ROOM, "seed {seed}");
+    }
+}

@@ -1,0 +1,98 @@
+//! Every vector file, run against the second program.
+
+use second::vectors::{parse, run_all, unescape, Second};
+use std::collections::BTreeSet;
+
+fn vector_file(name: &str) -> String {
+    let path = format!("{}/../vectors/{name}", env!("CARGO_MANIFEST_DIR"));
+    std::fs::read_to_string(&path).unwrap_or_else(|error| panic!("{path}: {error}"))
+}
+
+/// Runs a file, which must hold at least `least` cases.
+fn run_file(name: &str, least: usize) {
+    match run_all(&vector_file(name), &Second) {
+        Ok(count) => {
+            println!("{name}: {count} vectors");
+            assert!(count >= least, "{name}: {count} vectors, fewer than {least}");
+        }
+        Err(failures) => panic!("{name}: {failures}"),
+    }
+}
+
+#[test]
+fn readings_hold() {
+    run_file("readings.vec", 447);
+}
+
+#[test]
+fn scope_holds() {
+    run_file("scope.vec", 473);
+}
+
+#[test]
+fn sources_hold() {
+    run_file("sources.vec", 24);
+}
+
+/// The name of a failure leads to one case.
+#[test]
+fn names_differ() {
+    let files = ["readings.vec", "scope.vec", "sources.vec"].map(vector_file);
+    let cases: Vec<_> = files.iter().flat_map(|text| parse(text).unwrap()).collect();
+    let names: BTreeSet<&String> = cases.iter().map(|case| &case.name).collect();
+    assert_eq!(names.len(), cases.len());
+}
+
+/// The runner itself reports wrong expectations, each with the case's name.
+#[test]
+fn wrong_expectations_are_reported() {
+    let wrong = [
+        "body h5\nexpect refused 3 0",
+        "body q\nexpect ok",
+        "body q\nexpect refused 3 1",
+        "body q\nexpect refused 4 0",
+        "body ca\nquery glyph=b\\n\nfind hit 0\\nfound 1 1\\n",
+        "body ca\nspelt c b\\nx s\\n",
+        "body ca\nrespell x s\\n",
+        "body ca\nglyphs end\\n",
+        "body ca\nhas glyph 1 1 0 0 1 10000 0 0 56 1 a",
+        "body ca\nrecords 0\nreader ok",
+        "body ca\nrecords 0\nrewriter refused 13 0",
+        "body ca\nquery glyph=a\\n\nhits 0\nfinder ok",
+    ];
+    for lines in wrong {
+        let message = run_all(&format!("case wrong-one\n{lines}\n"), &Second).unwrap_err();
+        assert!(message.contains("wrong-one"), "{message}");
+    }
+}
+
+#[test]
+fn one_wrong_case_among_right_ones_is_counted() {
+    let text = "case a\nbody ca\nexpect ok\n\n# c\ncase b\nbody q\nexpect ok\n\ncase c\nbody q\nexpect refused 3 0\n";
+    let message = run_all(text, &Second).unwrap_err();
+    assert!(message.starts_with("1 of 3 cases fail\ncase b: "), "{message}");
+}
+
+#[test]
+fn wrong_files_are_reported() {
+    let wrong = [
+        "case a\nbody ca",
+        "case a\nexpect ok",
+        "body ca\nexpect ok",
+        "case a\nbody ca\nexpect maybe",
+        "case a\nbody ca\nexpect refused 3",
+        "case a\nbody \\q\nexpect ok",
+        "case a\nbody \\{a*}\nexpect ok",
+        "case a\nbody ca\nstream ca\nexpect ok",
+        "case a\nbody ca\nwish ok",
+    ];
+    for text in wrong {
+        assert!(run_all(text, &Second).is_err(), "{text}");
+    }
+}
+
+#[test]
+fn escapes_are_undone() {
+    let bytes = unescape("a\\n\\t\\\\\\s\\x00\\xfF\\{ab\\n*3}z").unwrap();
+    assert_eq!(bytes, b"a\n\t\\ \x00\xffab\nab\nab\nz");
+}
