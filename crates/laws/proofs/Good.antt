@@ -58,7 +58,7 @@ AllGood (a ∷ xs) = Good a × AllGood xs
 
 abbrev pub ShapedCmd : Cmd → Type 0
 ShapedCmd (just a) = Shaped a
-ShapedCmd (word n bs) = All isNotWhite bs
+ShapedCmd (word n bs) = Name bs
 ShapedCmd (pair n b) = isNotWhite b ≡ true
 
 abbrev pub GoodCmd : Cmd → Type 0

@@ -152,7 +152,7 @@ ready-fair e go (some f) h = on (onPage e) (λ k. rw k (on (ltb 0 (e .size)) (λ
 module _ (w : Widths) where
   acts-fair : (e : Env) (c : Cmd) → GoodCmd c → FairActs (acts w e c)
   acts-fair e (just a) g = (fair a g, tt)
-  acts-fair e (word n bs) g = ready-fair e (wordIn w e n bs) (e .font) (λ f. word-fair (w .fonts) (mountedAt f (e .mounts)) _ bs (g .1))
+  acts-fair e (word n bs) g = ready-fair e (wordIn w e n bs) (e .font) (λ f. word-fair (w .fonts) (mountedAt f (e .mounts)) _ bs (g .1 .whole))
   acts-fair e (pair n b) g = ready-fair e (λ f. these (by across n ∷ glyph (b ∷ []) ∷ [])) (e .font) (λ f. ((tt, by-steady across n), (fair (glyph (b ∷ [])) (byte-good b (g .1)), tt)))
 
   pub played-fair : (cs : Cmds) (e : Env) → AllCmds cs → AllFair (played w e (bare cs))
