@@ -4,3 +4,4 @@ pub mod Play
 pub mod Alike
 pub mod Placed
 pub mod Spells
+pub mod Pages

@@ -20,6 +20,8 @@ use Rattle.reading.specs.Outline.{Mark, byteMark, marksOf, outline, keysFrom}
 use Rattle.reading.proofs.Runs.{well}
 use Rattle.reading.proofs.Play.{spelling-read, spelling-again}
 use Rattle.reading.proofs.Alike.{glyphsOf, keys-of}
+use Rattle.reading.specs.Pages.{pageNumbers}
+use Rattle.reading.proofs.Pages.{spelling-pages}
 use Rattle.reading.proofs.Placed.{didGo, seen-follow, seen-goes, goes-well, says, finish-well}
 use Rattle.reading.proofs.Spells.{played-fair, house-good}
 use Rattle.printed.proofs.Trip.{placed, round-trip, bare-placed, placed-ended}
@@ -127,6 +129,7 @@ pub record Again (s list t : List ℕ) : Type 0 where
   pub spelling-accepted : Accepted t list
   pub alike : seen (read t list) ≡ seen (read s list)
   pub same : respell t list ≡ spelled t
+  pub numbers : pageNumbers (cmdsOf t) ≡ pageNumbers (cmdsOf s)
 
 pub again : (s list t : List ℕ) → respell s list ≡ spelled t → Again s list t
 unfolding respell
@@ -145,6 +148,7 @@ again s list t h = first (spelt (spellWith s (widthList list)) t (read s list) h
           spelling-accepted = b;
           alike = r;
           same = rw (z .list-sound, x) (spells t (read t list) b f);
+          numbers = rw (← e, spelling-bare (z .widths) s g) (spelling-pages (z .widths) (cmdsOf s) g);
         }
 
     second : (z : Sound s list) → Spelt (spellWith s (widthList list)) t (read s list) → Again s list t
@@ -182,6 +186,7 @@ roundTrip s list t h = go (again s list t h)
       stream-accepted = a .stream-accepted;
       spelling-accepted = a .spelling-accepted;
       same = same-reading (read t list) (read s list) (a .spelling-accepted) (a .stream-accepted) (a .alike);
+      page-numbers = a .numbers;
     }
 
 pub fixedPoint : FixedPoint

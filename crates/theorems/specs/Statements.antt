@@ -12,6 +12,7 @@ use Rattle.rules.specs.Record.{GlyphRow, ItemRow, Answer, refuse, answer}
 use Rattle.rules.specs.Find.{Wanted, Query, wellFormed, query}
 use Rattle.rules.specs.Answers.{read, isAccepted, Spelling, spelled, respell, Found, notFound, found, keyOf, find}
 use Rattle.reading.specs.Outline.{Mark, marksOf, outline}
+use Rattle.reading.specs.Pages.{pageNumbers}
 use Rattle.finding.specs.Occurs.{QueryShape, OccursAt, Elem, Rising}
 
 -- "A stream is accepted where, with its width list, no reason but 13 is against it"
@@ -59,10 +60,15 @@ pub record SameReading (a b : Answer) : Type 0 where
   pub glyph-colour : glyphPaintIn a ≡ glyphPaintIn b
   pub fill-colour : fillPaintIn a ≡ fillPaintIn b
 
+-- the commands of a stream
+abbrev pub cmdsOf : List ℕ → List Cmd
+cmdsOf s = bare (commands 0 0 s)
+
 pub record ReadAgain (s list t : List ℕ) : Type 0 where
   pub stream-accepted : Accepted s list
   pub spelling-accepted : Accepted t list
   pub same : SameReading (read t list) (read s list)
+  pub page-numbers : pageNumbers (cmdsOf t) ≡ pageNumbers (cmdsOf s)
 
 abbrev pub RoundTrip : Type 0
 RoundTrip = (s list t : List ℕ) → respell s list ≡ spelled t → ReadAgain s list t
@@ -113,10 +119,7 @@ told (found rs is) = listed is (length rs)
 
 -- ---- "whichever of t, u, c, C or the two-digit form set a one-byte name"
 
--- The commands of a stream. Their outline has the names, gaps and pages alone.
-abbrev pub cmdsOf : List ℕ → List Cmd
-cmdsOf s = bare (commands 0 0 s)
-
+-- the outline of a stream's commands has the names, gaps and pages alone
 abbrev pub ByOutline : Type 0
 ByOutline = (s list s′ list′ : List ℕ) → Accepted s list → Accepted s′ list′ → outline (cmdsOf s) ≡ outline (cmdsOf s′)
     → (q : List ℕ) → told (find s list q) ≡ told (find s′ list′ q)

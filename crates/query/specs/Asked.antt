@@ -1,0 +1,34 @@
+-- The query as the code holds it: its answer, and its glyph lines by number. Assumes nothing.
+use Prim.Native.Nat.{ℕ, _+_, _<_, _≤_}
+use mathlib.Core.List.{List, [], _∷_}
+use mathlib.Core.Path.{_≡_}
+use lib.ListN.{length, take, drop, getD}
+use Rattle.rules.specs.Find.{Gap, anyGap, noGap, someGap, Wanted, Query, illFormed, wellFormed, query}
+use Rattle.finding.specs.Occurs.{wantedAt}
+use Rattle.query.specs.declared.QueryAnswer.{QueryAnswer}
+use Rattle.query.specs.declared.QueryAnswer.the-variants as Q
+
+-- refusal 12's offset, or how many glyphs are asked for
+abbrev pub queryOf : Query → QueryAnswer
+queryOf (illFormed at) = Q.IllFormed at
+queryOf (wellFormed qs) = Q.WellFormed (length qs)
+
+-- what a glyph asks of the gap mark, as a number
+abbrev pub gapNumber : Gap → ℕ
+gapNumber anyGap = 0
+gapNumber noGap = 1
+gapNumber someGap = 2
+
+-- a part of a list of bytes, the empty part where it does not lie in the list
+abbrev pub partOf : List ℕ → ℕ → ℕ → List ℕ
+partOf s place len = take len (drop place s)
+
+-- the three rows hold the glyph lines: of each its name's place and length in the query, and what it asks of the gap mark
+pub record LinesIn (q : List ℕ) (qs : List Wanted) (places lens gaps : List ℕ) : Type 0 where
+  pub inside : (j : ℕ) → j < length qs → getD places j 0 + getD lens j 0 ≤ length q
+  pub name : (j : ℕ) → j < length qs → partOf q (getD places j 0) (getD lens j 0) ≡ wantedAt qs j .name
+  pub gap : (j : ℕ) → j < length qs → getD gaps j 0 ≡ gapNumber (wantedAt qs j .gap)
+
+abbrev pub LinesOf : List ℕ → List ℕ → List ℕ → List ℕ → Query → Type 0
+LinesOf q places lens gaps (illFormed at) = Unit {0}
+LinesOf q places lens gaps (wellFormed qs) = LinesIn q qs places lens gaps

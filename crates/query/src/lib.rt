@@ -1,0 +1,246 @@
+// The query, judged, and its glyph lines by number (document 01, "Finding").
+ghost use mathlib.Core.Path.{_≡_};
+ghost use Prim.Native.Nat.{_+_, _-_, _≤_, _<_};
+ghost use lib.ListN.{length, drop, set};
+ghost use Rattle.rules.specs.Bytes.{same, isNotWhite, isNotNewline, span, oneLine};
+ghost use Rattle.rules.specs.Widths.{isString};
+ghost use Rattle.rules.specs.Find.{query};
+ghost use Rattle.query.specs.Asked.{queryOf, LinesOf};
+ghost use Rattle.query.specs.Parts.{partIn};
+ghost use Rattle.query.specs.Turns.{glyphKind, gapKind, kindOf, expectedOf, endOf, Room, Going, Turned};
+
+// The offset of refusal 12, or how many glyphs are asked for.
+pub enum QueryAnswer {
+    IllFormed { offset: usize },
+    WellFormed { glyphs: usize },
+}
+
+// What a line of the query is.
+enum Kind {
+    Glyph,
+    Gap,
+    Wrong,
+}
+
+// Between two lines: the next line's place; what a glyph line there asks of the gap mark (0 nothing, it is the first; 1 that it is
+// not set; 2 that it is, a gap line was read); that gap line's place; and how many glyph lines were read.
+struct State {
+    at: usize,
+    due: u32,
+    gap: usize,
+    glyphs: usize,
+}
+
+// The state behind the line, or the line is wrong.
+enum Flow {
+    On(State),
+    Stop,
+}
+
+// The caller's part of s at a place with a length; the empty part where it does not lie in s.
+pub fn part<'a>(s: &'a [u8], place: usize, len: usize) -> &'a [u8]
+    ensures { λ r. ⌜ now r ≡ partIn (now (s .entry)) place len ⌝ }
+{
+    if s.len() < place {
+        return &s[..0];
+    }
+    if s.len() - place < len {
+        return &s[..0];
+    }
+    let end = place + len;
+    &s[place..end]
+}
+
+// Two runs of bytes are equal.
+pub fn same_bytes(a: &[u8], b: &[u8]) -> bool
+    ensures { λ r. ⌜ r ≡ same (now (a .entry)) (now (b .entry)) ⌝ }
+{
+    if a.len() != b.len() {
+        return false;
+    }
+    let mut i = 0;
+    while i < a.len() {
+        if a[i] != b[i] {
+            return false;
+        }
+        i += 1;
+    }
+    true
+}
+
+fn not_newline(b: u8) -> bool
+    ensures { λ r. ⌜ r ≡ isNotNewline b ⌝ }
+{
+    !(b == 10)
+}
+
+fn not_white(b: u8) -> bool
+    ensures { λ r. ⌜ r ≡ isNotWhite b ⌝ }
+{
+    !((b == 32) | (b == 9) | (b == 10))
+}
+
+// Where the line that starts at a place ends: at its newline, or at the end of q.
+fn line_end(q: &[u8], at: usize) -> usize
+    ensures { λ r. ⌜ r ≡ at + oneLine (drop at (now (q .entry))) ⌝ }
+{
+    let mut i = at;
+    while i < q.len() && not_newline(q[i]) {
+        i += 1;
+    }
+    i
+}
+
+// How many bytes at the front are no whitespace.
+fn word_len(t: &[u8]) -> usize
+    ensures { λ r. ⌜ r ≡ span isNotWhite (now (t .entry)) ⌝ }
+{
+    let mut i = 0;
+    while i < t.len() && not_white(t[i]) {
+        i += 1;
+    }
+    i
+}
+
+// 1 to 64 bytes, none of them whitespace.
+fn is_string(t: &[u8]) -> bool
+    ensures { λ r. ⌜ r ≡ isString (now (t .entry)) ⌝ }
+{
+    let n = word_len(t);
+    (0 < t.len()) & ((t.len() <= 64) & (n == t.len()))
+}
+
+// A line with the key `glyph=` and this name.
+fn glyph_kind(name: &[u8], glyphs: usize) -> Kind
+    ensures { λ r. ⌜ r ≡ glyphKind glyphs (now (name .entry)) ⌝ }
+{
+    if glyphs < 64 {
+        if is_string(name) {
+            return Kind::Glyph;
+        }
+    }
+    Kind::Wrong
+}
+
+// A line without that key.
+fn gap_kind(t: &[u8], due: u32) -> Kind
+    ensures { λ r. ⌜ r ≡ gapKind due (now (t .entry)) ⌝ }
+{
+    if due == 1 {
+        if same_bytes(t, b"gap=any") {
+            return Kind::Gap;
+        }
+    }
+    Kind::Wrong
+}
+
+// What the line with the bytes t is.
+fn kind_of(t: &[u8], due: u32, glyphs: usize) -> Kind
+    ensures { λ r. ⌜ r ≡ kindOf glyphs due (now (t .entry)) ⌝ }
+{
+    if t.len() < 6 {
+        return gap_kind(t, due);
+    }
+    if same_bytes(&t[0..6], b"glyph=") {
+        glyph_kind(&t[6..], glyphs)
+    } else {
+        gap_kind(t, due)
+    }
+}
+
+// Puts a glyph line into the rows.
+fn put(
+    places: &mut [u32],
+    lens: &mut [u32],
+    gaps: &mut [u32],
+    n: usize,
+    place: u32,
+    len: u32,
+    gap: u32,
+)
+    requires { ⌜ Room n (now places) (now lens) (now gaps) ⌝ }
+    ensures { λ _. ⌜ now (places .exit) ≡ set (now (places .entry)) n place ⌝ }
+    ensures { λ _. ⌜ now (lens .exit) ≡ set (now (lens .entry)) n len ⌝ }
+    ensures { λ _. ⌜ now (gaps .exit) ≡ set (now (gaps .entry)) n gap ⌝ }
+{
+    places[n] = place;
+    lens[n] = len;
+    gaps[n] = gap;
+}
+
+// Reads one line.
+fn turn(q: &[u8], places: &mut [u32], lens: &mut [u32], gaps: &mut [u32], st: State) -> Flow
+    requires { ⌜ Going (now q) st (now places) (now lens) (now gaps) × (st .at < length (now q)) ⌝ }
+    ensures { λ r. ⌜ Turned (now (q .entry)) st r (now (places .exit)) (now (lens .exit)) (now (gaps .exit)) ⌝ }
+{
+    let at = st.at;
+    let n = st.glyphs;
+    let end = line_end(q, at);
+    if q.len() <= end {
+        return Flow::Stop;
+    }
+    match kind_of(&q[at..end], st.due, n) {
+        Kind::Glyph => {
+            let place = at + 6;
+            put(
+                places,
+                lens,
+                gaps,
+                n,
+                place as u32,
+                (end - place) as u32,
+                st.due,
+            );
+            Flow::On(State {
+                at: end + 1,
+                due: 1,
+                gap: 0,
+                glyphs: n + 1,
+            })
+        }
+        Kind::Gap => Flow::On(State {
+            at: end + 1,
+            due: 2,
+            gap: at,
+            glyphs: n,
+        }),
+        Kind::Wrong => Flow::Stop,
+    }
+}
+
+// What the end of the query says.
+fn ended(st: State) -> QueryAnswer
+    ensures { λ r. ⌜ r ≡ endOf (st .glyphs) (expectedOf (st .due) (st .gap)) ⌝ }
+{
+    let due = st.due;
+    match due {
+        0 => QueryAnswer::IllFormed { offset: 0 },
+        1 => QueryAnswer::WellFormed { glyphs: st.glyphs },
+        _ => QueryAnswer::IllFormed { offset: st.gap },
+    }
+}
+
+// Judges the query, and puts its glyph lines into the rows: of each its name's place and length in q, and what it asks of the gap
+// mark. The rows' content does not matter where the query is ill formed.
+pub fn load(q: &[u8], places: &mut [u32], lens: &mut [u32], gaps: &mut [u32]) -> QueryAnswer
+    requires { ⌜ (length (now places) ≡ 64) × (length (now lens) ≡ 64) × (length (now gaps) ≡ 64) × (length (now q) ≤ 8192) ⌝ }
+    ensures { λ r. ⌜ (r ≡ queryOf (query (now (q .entry)))) × LinesOf (now (q .entry)) (now (places .exit)) (now (lens .exit)) (now (gaps .exit)) (query (now (q .entry))) ⌝ }
+{
+    let mut st = State {
+        at: 0,
+        due: 0,
+        gap: 0,
+        glyphs: 0,
+    };
+    while st.at < q.len() {
+        match turn(q, places, lens, gaps, st) {
+            Flow::On(next) => {
+                st = next;
+            }
+            Flow::Stop => {
+                return QueryAnswer::IllFormed { offset: st.at };
+            }
+        }
+    }
+    ended(st)
+}
