@@ -1,0 +1,6 @@
+pub mod Runs
+pub mod Chains
+pub mod Bounds
+pub mod Pairs
+pub mod PolygonBounds
+pub mod Nums

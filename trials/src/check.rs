@@ -1,0 +1,94 @@
+//! Checks: what a definition must give on a case, as an antt declaration.
+
+use second::print::refusal_text;
+use second::vectors::{Case, Program, Routine, Second};
+
+/// The room that stands for unlimited; no case within the bounds needs more.
+const UNLIMITED: usize = 1_000_000_000;
+
+/// One check. The declaration's name is a plain word, used by no other check of a run.
+#[derive(Clone, Debug)]
+pub struct Check {
+    pub name: String,
+    /// the case it is about, for people
+    pub case: String,
+    /// an antt expression for a list of bytes
+    pub computed: String,
+    pub expected: Vec<u8>,
+}
+
+/// Whether stream, list and query have at most `limit` bytes each.
+pub fn is_within(case: &Case, limit: usize) -> bool {
+    let query = case.query.as_deref().unwrap_or_default();
+    [&case.stream, &case.list, query].iter().all(|input| input.len() <= limit)
+}
+
+/// The checks of every case: reader and rewriter and, with a query, the finder.
+pub fn checks(cases: &[Case]) -> Vec<Check> {
+    let mut checks = Vec::new();
+    for (number, case) in cases.iter().enumerate() {
+        checks.push(check(number, case, Routine::Reader));
+        checks.push(check(number, case, Routine::Rewriter));
+        if case.query.is_some() {
+            checks.push(check(number, case, Routine::Finder));
+        }
+    }
+    checks
+}
+
+/// The check of one routine: the definition's text is the second program's.
+fn check(number: usize, case: &Case, routine: Routine) -> Check {
+    let query = case.query.as_deref().unwrap_or_default();
+    let (stream, list, rooms) = (&case.stream, &case.list, case.rooms);
+    let [records, entries, hits, spelling] =
+        [rooms.records, rooms.entries, rooms.hits, rooms.spelling].map(|room| room.min(UNLIMITED));
+    let (s, l, q) = (bytes(stream), bytes(list), bytes(query));
+    let (word, computed, answer) = match routine {
+        Routine::Reader => (
+            "reader",
+            format!("readText (readInto {records} {entries} {s} {l})"),
+            Second.glyphs(stream, list, rooms),
+        ),
+        Routine::Rewriter => (
+            "rewriter",
+            format!("spellText (respellInto {spelling} {s} {l})"),
+            Second.respell(stream, list, rooms),
+        ),
+        Routine::Finder => (
+            "finder",
+            format!("findText (findInto {records} {hits} {s} {l} {q})"),
+            Second.find(stream, list, query, rooms),
+        ),
+    };
+    let expected = answer.unwrap_or_else(refusal_text);
+    Check { name: format!("{word}{number}"), case: case.name.clone(), computed, expected }
+}
+
+/// The declaration of a check; the case's name stands before it as a comment.
+pub fn declaration(check: &Check) -> String {
+    let Check { name, case, computed, expected } = check;
+    let expected = bytes(expected);
+    format!("-- {case}\n{name} : T (same ({computed}) {expected})\nunfolding rules texts\n{name} = tt\n\n")
+}
+
+/// Bytes as an antt expression.
+fn bytes(bytes: &[u8]) -> String {
+    format!("(bytes {})", literal(bytes))
+}
+
+/// Bytes as an antt string, one character for each byte.
+pub fn literal(bytes: &[u8]) -> String {
+    let mut text = String::from("\"");
+    for &byte in bytes {
+        match byte {
+            b'"' => text.push_str("\\\""),
+            b'\\' => text.push_str("\\\\"),
+            b'\n' => text.push_str("\\n"),
+            b'\t' => text.push_str("\\t"),
+            b' '..=b'~' => text.push(char::from(byte)),
+            _ => text.push_str(&format!("\\u{{{byte:x}}}")),
+        }
+    }
+    text.push('"');
+    text
+}
