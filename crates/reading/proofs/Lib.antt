@@ -5,3 +5,4 @@ pub mod Alike
 pub mod Placed
 pub mod Spells
 pub mod Pages
+pub mod Keeps

@@ -12,7 +12,7 @@ use Rattle.rules.specs.Act.{Axis, across, down, Act, glyph, index, to, by, page
 use Rattle.rules.specs.Drawing.{Way, wayOf}
 use Rattle.rules.specs.Scan.{limits, Cmds, done, wrong, next, bare}
 use Rattle.rules.specs.Widths.{Widths, Font, widthOf}
-use Rattle.rules.specs.State.{Spot, corner, get, put, fitsAll, plusAll, mayGo, spotAfter, filled, fits, plus, withFont, recorded, indexed, mountedAt, isMounted, Env, start, setSpot, setGap, setFont, setFillPaint, Glyph, Item, itemAt, Step, refused, went, onPage, due, effect, act, run, Acts, noActs, these, ready, byteActs, wordActs, wordIn, acts}
+use Rattle.rules.specs.State.{Spot, corner, get, put, fitsAll, plusAll, mayGo, spotAfter, filled, fits, plus, withFont, recorded, indexed, mountedAt, isMounted, Env, start, setSpot, setGap, setFont, setFillPaint, Glyph, Item, itemAt, Step, refused, went, before, andThen, onPage, due, effect, act, run, Acts, noActs, these, perform, ready, byteActs, wordActs, wordIn, acts}
 use Rattle.rules.specs.House.{Manner, anchored, floating, turning, moving, manner, moves, kept, pen, onward, house, playOn, played}
 use Rattle.laws.proofs.Cases.{All, on, and-left, and-right}
 use Rattle.laws.proofs.Good.{allTrue, Name, Shaped, Good, AllGood, GoodCmd, AllCmds}
@@ -22,7 +22,7 @@ use Rattle.laws.proofs.Good.{allTrue, Name, Shaped, Good, AllGood, GoodCmd, All
 abbrev pub Near : Spot → Type 0
 Near p = (near (p .h) ≡ true) × (near (p .v) ≡ true)
 
-abbrev NearAfter : Step → Type 0
+abbrev pub NearAfter : Step → Type 0
 NearAfter (refused n) = Unit {0}
 NearAfter (went e gs is) = Near (e .spot)
 
@@ -149,11 +149,32 @@ ready-fair : (e : Env) (go : ℕ → Acts) (o : Option ℕ) → ((f : ℕ) → F
 ready-fair e go none h = on (onPage e) (λ k. rw k tt) (λ k. rw k tt)
 ready-fair e go (some f) h = on (onPage e) (λ k. rw k (on (ltb 0 (e .size)) (λ j. rw j (h f)) (λ j. rw j tt))) (λ k. rw k tt)
 
+before-near : (gs : List Glyph) (is : List Item) (x : Step) → NearAfter x → NearAfter (before gs is x)
+before-near gs is (refused n) h = tt
+before-near gs is (went e gs′ is′) h = h
+
+run-near : (xs : List Act) (e : Env) → AllFair xs → Near (e .spot) → NearAfter (run e xs)
+unfolding run
+run-near [] e f h = h
+run-near (a ∷ xs) e f h = go (act e a) (f .0 .1 e h) (λ d k. run-near xs d (f .1) k)
+  where
+    go : (x : Step) → NearAfter x → ((d : Env) → Near (d .spot) → NearAfter (run d xs)) → NearAfter (andThen x (λ d. run d xs))
+    go (refused n) k more = tt
+    go (went d gs is) k more = before-near gs is (run d xs) (more d k)
+
 module _ (w : Widths) where
   acts-fair : (e : Env) (c : Cmd) → GoodCmd c → FairActs (acts w e c)
   acts-fair e (just a) g = (fair a g, tt)
   acts-fair e (word n bs) g = ready-fair e (wordIn w e n bs) (e .font) (λ f. word-fair (w .fonts) (mountedAt f (e .mounts)) _ bs (g .1 .whole))
   acts-fair e (pair n b) g = ready-fair e (λ f. these (by across n ∷ glyph (b ∷ []) ∷ [])) (e .font) (λ f. ((tt, by-steady across n), (fair (glyph (b ∷ [])) (byte-good b (g .1)), tt)))
+
+  -- running them keeps every place within the limit
+  pub perform-near : (e : Env) (c : Cmd) → GoodCmd c → Near (e .spot) → NearAfter (perform e (acts w e c))
+  perform-near e c g h = all (acts w e c) (acts-fair e c g)
+    where
+      all : (x : Acts) → FairActs x → NearAfter (perform e x)
+      all (noActs n) f = tt
+      all (these xs) f = run-near xs e f h
 
   pub played-fair : (cs : Cmds) (e : Env) → AllCmds cs → AllFair (played w e (bare cs))
   unfolding played

@@ -1,6 +1,6 @@
 -- Every scanned command is within its limits, and its names, texts and counts of arguments are as they must be.
 -- Assumes nothing.
-use Prim.Native.Nat.{ℕ, zero, suc, _+_, _*_, _-_}
+use Prim.Native.Nat.{_<_, ℕ, zero, suc, _+_, _*_, _-_}
 use native.Mathlib.Omega.{arith}
 use mathlib.Core.Bool.{Bool, true, false}
 use mathlib.Core.List.{List, [], _∷_, _++_, map}
@@ -49,60 +49,60 @@ paired-map f (x ∷ []) = refl
 paired-map f (x ∷ y ∷ []) = refl
 paired-map f (x ∷ y ∷ z ∷ r) = paired-map f (z ∷ r)
 
--- ---- what each scanner puts together
+-- ---- what each scanner puts together; a refusal has a number
 
 abbrev pub ShapedDraft : Draft → Type 0
-ShapedDraft (fault n) = Unit {0}
+ShapedDraft (fault n) = 0 < n
 ShapedDraft (draft c ds ks a l t) = ShapedCmd c
 
 closed-shaped : (x : Draft) → ShapedDraft x → ShapedDraft (closed x)
-closed-shaped (fault n) h = tt
-closed-shaped (draft c ds ks a l t) h = if-both ShapedDraft (lineEnds t) (draft c ds ks a l t) (fault 5) h tt
+closed-shaped (fault n) h = h
+closed-shaped (draft c ds ks a l t) h = if-both ShapedDraft (lineEnds t) (draft c ds ks a l t) (fault 5) h (omega arith)
 
 ignoring-shaped : (x : Draft) (y : Nums) → ShapedDraft x → ShapedDraft (ignoring x y)
-ignoring-shaped (fault n) y h = tt
-ignoring-shaped (draft c ds ks a l t) short h = tt
+ignoring-shaped (fault n) y h = h
+ignoring-shaped (draft c ds ks a l t) short h = omega arith
 ignoring-shaped (draft c ds ks a l t) (nums ns js k s) h = h
 
 dummy-shaped : (x : Draft) → ShapedDraft x → ShapedDraft (withDummy x)
-dummy-shaped (fault n) h = tt
+dummy-shaped (fault n) h = h
 dummy-shaped (draft c ds ks a l t) h = ignoring-shaped (draft c ds ks a l t) (followedByWhite (perhapsInteger l t)) h
 
 behind-shaped : (x : Draft) → ShapedDraft x → ShapedDraft (dummyBehind x)
-behind-shaped (fault n) h = tt
+behind-shaped (fault n) h = h
 behind-shaped (draft c ds ks a l t) h = ignoring-shaped (draft c ds ks a l t) (perhapsInteger l t) h
 
 named-shaped : (f : List ℕ → Cmd) (ks : List ℕ) (k : ℕ) (r : List ℕ) → ((n : List ℕ) → Name n → ShapedCmd (f n)) → ShapedDraft (named f ks k r)
 unfolding named
 named-shaped f ks k r h =
-    on (eqb (string (unspaced r)) 0) (λ e. rw e tt)
+    on (eqb (string (unspaced r)) 0) (λ e. rw e (omega arith))
     (λ e. rw e (h (take (string (unspaced r)) (unspaced r)) (record {
       whole = all-span isNotWhite (unspaced r);
       some = rw (length-span isNotWhite (unspaced r)) (not-zero (string (unspaced r)) e);
     })))
 
 numberNamed-shaped : (f : ℕ → List ℕ → Cmd) (x : Nums) → ((n : ℕ) (m : List ℕ) → Name m → ShapedCmd (f n m)) → ShapedDraft (numberNamed f x)
-numberNamed-shaped f short h = tt
-numberNamed-shaped f (nums [] ks l t) h = tt
+numberNamed-shaped f short h = omega arith
+numberNamed-shaped f (nums [] ks l t) h = omega arith
 numberNamed-shaped f (nums (n ∷ ns) ks l t) h = named-shaped (f (moved n)) ks l t (h (moved n))
 
 byte-shaped : (f : ℕ → Cmd) (k : ℕ) (r : List ℕ) → ((b : ℕ) → isNotWhite b ≡ true → ShapedCmd (f b)) → ShapedDraft (oneByte f k r)
-byte-shaped f k [] h = tt
-byte-shaped f k (b ∷ r) h = on (isWhite b) (λ e. rw e tt) (λ e. rw e (h b (rw e)))
+byte-shaped f k [] h = omega arith
+byte-shaped f k (b ∷ r) h = on (isWhite b) (λ e. rw e (omega arith)) (λ e. rw e (h b (rw e)))
 
 digit-shaped : (b k : ℕ) (r : List ℕ) → ShapedDraft (secondDigit b k r)
-digit-shaped b k [] = tt
+digit-shaped b k [] = omega arith
 digit-shaped b k (c ∷ r) =
     if-both ShapedDraft (isDigit c) _ (fault 4)
-    (byte-shaped (pair (origin + ((b - 48) * 10 + (c - 48)))) (k + 1 + spacer r) (unspaced r) (λ x h. h)) tt
+    (byte-shaped (pair (origin + ((b - 48) * 10 + (c - 48)))) (k + 1 + spacer r) (unspaced r) (λ x h. h)) (omega arith)
 
 one-shaped : (f : ℕ → Act) (x : Nums) → ((n : ℕ) → Shaped (f n)) → ShapedDraft (withOne f x)
-one-shaped f short h = tt
-one-shaped f (nums [] ks l t) h = tt
+one-shaped f short h = omega arith
+one-shaped f (nums [] ks l t) h = omega arith
 one-shaped f (nums (n ∷ ns) ks l t) h = h (moved n)
 
 all-shaped : (P : List Num → Type 0) (f : List ℕ → Act) (x : Nums) → NumsAre P x → ((ns : List Num) → P ns → Shaped (f (map moved ns))) → ShapedDraft (withAll f x)
-all-shaped P f short c h = tt
+all-shaped P f short c h = omega arith
 all-shaped P f (nums ns ks l t) c h = h ns c
 
 -- n integers, and an act that wants n
@@ -110,11 +110,11 @@ counted-shaped : (f : List ℕ → Act) (n k : ℕ) (r : List ℕ) → ((ns : Li
 counted-shaped f n k r h = all-shaped (λ ns. length ns ≡ n) f (integers n k r) (counted n k r) (λ ns c. h (map moved ns) (length-map ns moved ∙ c))
 
 coloured-shaped : (f : Scheme → List ℕ → Act) (k : ℕ) (r : List ℕ) → ((c : Scheme) (ns : List ℕ) → length ns ≡ components c → Shaped (f c ns)) → ShapedDraft (coloured f k r)
-coloured-shaped f k [] h = tt
+coloured-shaped f k [] h = omega arith
 coloured-shaped f k (b ∷ r) h = go (schemeOf b)
   where
     go : (o : Option Scheme) → ShapedDraft (inScheme f (k + 1) r o)
-    go none = tt
+    go none = omega arith
     go (some c) = counted-shaped (f c) (components c) (k + 1) r (h c)
 
 drawn-shaped : (s : Shape) (k : ℕ) (r : List ℕ) (f : Form) → ((ns : List ℕ) → Count f ns → Shaped (draw s ns)) → ShapedDraft (drawn s k r f)
@@ -126,19 +126,19 @@ drawn-shaped s k r paired h =
 
 drawing-shaped : (k : ℕ) (r : List ℕ) → ShapedDraft (drawing k r)
 unfolding drawing
-drawing-shaped k [] = tt
+drawing-shaped k [] = omega arith
 drawing-shaped k (b ∷ r) =
     if-both ShapedDraft (is "F" b) _ _ (coloured-shaped (λ c. draw (colourFill c)) (k + 1 + spacer r) (unspaced r) (λ c ns h. h)) (go (shapeOf b))
   where
     go : (o : Option Shape) → ShapedDraft (inShape (k + 1) r o)
-    go none = tt
+    go none = omega arith
     go (some s) = drawn-shaped s (k + 1) r (formOf s) (λ ns h. h)
 
 resolution-shaped : (x : Nums) → ShapedDraft (resolutionOf x)
-resolution-shaped short = tt
-resolution-shaped (nums [] ks l t) = tt
-resolution-shaped (nums (n ∷ []) ks l t) = tt
-resolution-shaped (nums (n ∷ h ∷ []) ks l t) = tt
+resolution-shaped short = omega arith
+resolution-shaped (nums [] ks l t) = omega arith
+resolution-shaped (nums (n ∷ []) ks l t) = omega arith
+resolution-shaped (nums (n ∷ h ∷ []) ks l t) = omega arith
 resolution-shaped (nums (n ∷ h ∷ v ∷ more) ks l t) = tt
 
 -- the first byte of a text is no space
@@ -169,11 +169,11 @@ control-shaped b k r =
     (if-both ShapedDraft (is "t" b) _ _ (plain-shaped trailer k r)
     (if-both ShapedDraft (is "u" b) _ _ (plain-shaped underline k r)
     (if-both ShapedDraft (is "s" b) _ _ (closed-shaped (alone stop k r) tt)
-    (if-both ShapedDraft (is "X" b) _ _ (raw-starts (unspaced r) (drop-span isSpace r)) tt)))))))))))
+    (if-both ShapedDraft (is "X" b) _ _ (raw-starts (unspaced r) (drop-span isSpace r)) (omega arith))))))))))))
 
 word-shaped : (k : ℕ) (r : List ℕ) → ShapedDraft (controlWord k r)
-word-shaped k [] = tt
-word-shaped k (b ∷ r) = if-both ShapedDraft (isWhite b) (fault 3) _ tt (control-shaped b (k + 1 + string r) (drop (string r) r))
+word-shaped k [] = omega arith
+word-shaped k (b ∷ r) = if-both ShapedDraft (isWhite b) (fault 3) _ (omega arith) (control-shaped b (k + 1 + string r) (drop (string r) r))
 
 pub letter-shaped : (b : ℕ) (r : List ℕ) → ShapedDraft (letter b r)
 unfolding letter
@@ -196,7 +196,7 @@ letter-shaped b r =
     (if-both ShapedDraft (is "w" b) _ _ tt
     (if-both ShapedDraft (is "D" b) _ _ (closed-shaped (drawing (1 + spacer r) (unspaced r)) (drawing-shaped (1 + spacer r) (unspaced r)))
     (if-both ShapedDraft (is "x" b) _ _ (word-shaped (1 + spacer r) (unspaced r))
-    (if-both ShapedDraft (isDigit b) _ _ (digit-shaped b (1 + spacer r) (unspaced r)) tt)))))))))))))))))
+    (if-both ShapedDraft (isDigit b) _ _ (digit-shaped b (1 + spacer r) (unspaced r)) (omega arith))))))))))))))))))
 
 -- ---- limits
 
@@ -218,16 +218,16 @@ allTrue-left (true ∷ xs) ys h = allTrue-left xs ys h
 allTrue-left (false ∷ xs) ys h = h
 
 abbrev pub GoodScan : Scan → Type 0
-GoodScan (bad n k) = Unit {0}
+GoodScan (bad n k) = 0 < n
 GoodScan (got c a l) = GoodCmd c
 
 judged-good : (x : Draft) → ShapedDraft x → GoodScan (judged x)
-judged-good (fault n) h = tt
+judged-good (fault n) h = h
 judged-good (draft c ds ks a l t) h = go (outside (cmdLimits c ++ map isSmall ds) ks) refl
   where
     go : (o : Option ℕ) → outside (cmdLimits c ++ map isSmall ds) ks ≡ o → GoodScan (judgedBy c a l o)
     go none e = (allTrue-left (cmdLimits c) (map isSmall ds) (none-outside (cmdLimits c ++ map isSmall ds) ks e), h)
-    go (some k) e = tt
+    go (some k) e = omega arith
 
 pub command-good : (b : ℕ) (r : List ℕ) → GoodScan (command b r)
 command-good b r = judged-good (letter b r) (letter-shaped b r)
