@@ -139,7 +139,34 @@ pub record At (s : List ℕ) (k : ℕ) (r : List ℕ) : Type 0 where
 abbrev pub Stands : List ℕ → ℕ → List ℕ → Type 0
 Stands n a s = take (length n) (drop a s) ≡ n
 
--- the names of the records that an act or a command comes to, one behind the other
+-- what stands at a command's name: of a glyph, a word, and a control
+abbrev pub actText : Act → List ℕ
+actText (glyph n) = n
+actText (index n) = []
+actText (to x n) = []
+actText (by x n) = []
+actText (page n) = []
+actText (font n) = []
+actText (size n) = []
+actText (colour c ns) = []
+actText break = []
+actText space = []
+actText (draw s ns) = []
+actText (device n) = n
+actText (resolution n h v) = []
+actText init = []
+actText (file n) = n
+actText (mount n m) = m
+actText (plain c ns) = []
+actText (raw t) = []
+actText stop = []
+
+abbrev pub textOf : Cmd → List ℕ
+textOf (just a) = actText a
+textOf (word n bs) = bs
+textOf (pair n b) = b ∷ []
+
+-- the names of its glyphs, one behind the other
 abbrev pub actName : Act → List ℕ
 actName (glyph n) = n
 actName (index n) = []
@@ -166,12 +193,35 @@ nameOf (just a) = actName a
 nameOf (word n bs) = bs
 nameOf (pair n b) = b ∷ []
 
+pub name-stands : (c : Cmd) (a : ℕ) (s : List ℕ) → Stands (textOf c) a s → Stands (nameOf c) a s
+name-stands (just (glyph n)) a s h = h
+name-stands (just (index n)) a s h = refl
+name-stands (just (to x n)) a s h = refl
+name-stands (just (by x n)) a s h = refl
+name-stands (just (page n)) a s h = refl
+name-stands (just (font n)) a s h = refl
+name-stands (just (size n)) a s h = refl
+name-stands (just (colour c ns)) a s h = refl
+name-stands (just break) a s h = refl
+name-stands (just space) a s h = refl
+name-stands (just (draw x ns)) a s h = refl
+name-stands (just (device n)) a s h = refl
+name-stands (just (resolution n h v)) a s k = refl
+name-stands (just init) a s h = refl
+name-stands (just (file n)) a s h = refl
+name-stands (just (mount n m)) a s h = refl
+name-stands (just (plain c ns)) a s h = refl
+name-stands (just (raw x)) a s h = refl
+name-stands (just stop) a s h = refl
+name-stands (word n bs) a s h = h
+name-stands (pair n b) a s h = h
+
 -- A command c whose first byte is the first of s: l is its length, t stands behind it, its name stands at a, and each argument
 -- begins within it.
 pub record Lies (s : List ℕ) (c : Cmd) (ks : List ℕ) (a l : ℕ) (t : List ℕ) : Type 0 where
   pub end : At s l t
   pub name : a ≤ l
-  pub stands : Stands (nameOf c) a s
+  pub stands : Stands (textOf c) a s
   pub places : Places l ks
 
 abbrev pub DraftIn : List ℕ → Draft → Type 0
@@ -226,15 +276,15 @@ module _ (s : List ℕ) where
   -- in what follows r stands at the distance k
 
   -- an act without a name, up to l
-  nameless : (a : Act) (ks : List ℕ) (l : ℕ) (t : List ℕ) → actName a ≡ [] → At s l t → Places l ks → Lies s (just a) ks 0 l t
+  nameless : (a : Act) (ks : List ℕ) (l : ℕ) (t : List ℕ) → actText a ≡ [] → At s l t → Places l ks → Lies s (just a) ks 0 l t
   nameless a ks l t e h p = record { end = h; name = omega arith; stands = rw e; places = p }
 
-  one-in : (f : ℕ → Act) (k : ℕ) (r : List ℕ) (x : Nums) → ((n : ℕ) → actName (f n) ≡ []) → At s k r → NumsIn k r x → DraftIn s (withOne f x)
+  one-in : (f : ℕ → Act) (k : ℕ) (r : List ℕ) (x : Nums) → ((n : ℕ) → actText (f n) ≡ []) → At s k r → NumsIn k r x → DraftIn s (withOne f x)
   one-in f k r short e h g = tt
   one-in f k r (nums [] ks l t) e h g = tt
   one-in f k r (nums (n ∷ ns) ks l t) e h g = nameless (f (moved n)) ks l t (e (moved n)) (at-on k r l t h (g .0)) (g .1)
 
-  all-in : (f : List ℕ → Act) (k : ℕ) (r : List ℕ) (x : Nums) → ((ns : List ℕ) → actName (f ns) ≡ []) → At s k r → NumsIn k r x → DraftIn s (withAll f x)
+  all-in : (f : List ℕ → Act) (k : ℕ) (r : List ℕ) (x : Nums) → ((ns : List ℕ) → actText (f ns) ≡ []) → At s k r → NumsIn k r x → DraftIn s (withAll f x)
   all-in f k r short e h g = tt
   all-in f k r (nums ns ks l t) e h g = nameless (f (map moved ns)) ks l t (e (map moved ns)) (at-on k r l t h (g .0)) (g .1)
 
@@ -246,7 +296,7 @@ module _ (s : List ℕ) where
   resolution-in k r (nums (n ∷ m ∷ v ∷ more) ks l t) h g = nameless (resolution (moved n) (moved m) (moved v)) ks l t refl (at-on k r l t h (g .0)) (g .1)
 
   -- the name, if a record has it, is the string
-  named-in : (f : List ℕ → Cmd) (ks : List ℕ) (k : ℕ) (r : List ℕ) → ((n : List ℕ) (a : ℕ) → Stands n a s → Stands (nameOf (f n)) a s) → At s k r → Places k ks
+  named-in : (f : List ℕ → Cmd) (ks : List ℕ) (k : ℕ) (r : List ℕ) → ((n : List ℕ) (a : ℕ) → Stands n a s → Stands (textOf (f n)) a s) → At s k r → Places k ks
       → DraftIn s (named f ks k r)
   unfolding named
   named-in f ks k r e h g =
@@ -260,13 +310,13 @@ module _ (s : List ℕ) where
         places = places-append (a + n) ks (a ∷ []) (places-on k (a + n) ks (omega arith) g) (omega arith, tt);
       })
 
-  numberNamed-in : (f : ℕ → List ℕ → Cmd) (k : ℕ) (r : List ℕ) (x : Nums) → ((m : ℕ) (n : List ℕ) (a : ℕ) → Stands n a s → Stands (nameOf (f m n)) a s) → At s k r → NumsIn k r x
+  numberNamed-in : (f : ℕ → List ℕ → Cmd) (k : ℕ) (r : List ℕ) (x : Nums) → ((m : ℕ) (n : List ℕ) (a : ℕ) → Stands n a s → Stands (textOf (f m n)) a s) → At s k r → NumsIn k r x
       → DraftIn s (numberNamed f x)
   numberNamed-in f k r short e h g = tt
   numberNamed-in f k r (nums [] ks l t) e h g = tt
   numberNamed-in f k r (nums (n ∷ ns) ks l t) e h g = named-in (f (moved n)) ks l t (e (moved n)) (at-on k r l t h (g .0)) (g .1)
 
-  byte-in : (f : ℕ → Cmd) (k : ℕ) (r : List ℕ) → ((b : ℕ) → nameOf (f b) ≡ b ∷ []) → At s k r → DraftIn s (oneByte f k r)
+  byte-in : (f : ℕ → Cmd) (k : ℕ) (r : List ℕ) → ((b : ℕ) → textOf (f b) ≡ b ∷ []) → At s k r → DraftIn s (oneByte f k r)
   byte-in f k [] e h = tt
   byte-in f k (b ∷ r) e h =
       if-both (DraftIn s) (isWhite b) (fault 4) _ tt (record {
@@ -282,7 +332,7 @@ module _ (s : List ℕ) where
       if-both (DraftIn s) (isDigit c) _ (fault 4)
       (byte-in (pair (origin + ((b - 48) * 10 + (c - 48)))) (k + 1 + spacer r) (unspaced r) (λ x. refl) (at-unspaced (k + 1) r (at-next k c r h))) tt
 
-  coloured-in : (f : Scheme → List ℕ → Act) (k : ℕ) (r : List ℕ) → ((c : Scheme) (ns : List ℕ) → actName (f c ns) ≡ []) → At s k r → DraftIn s (coloured f k r)
+  coloured-in : (f : Scheme → List ℕ → Act) (k : ℕ) (r : List ℕ) → ((c : Scheme) (ns : List ℕ) → actText (f c ns) ≡ []) → At s k r → DraftIn s (coloured f k r)
   coloured-in f k [] e h = tt
   coloured-in f k (b ∷ r) e h = go (schemeOf b)
     where
@@ -309,9 +359,9 @@ module _ (s : List ℕ) where
   raw-in : (k : ℕ) (r : List ℕ) → At s k r → DraftIn s (rawly k r)
   raw-in k r h = nameless (raw (rawText r)) (k ∷ []) (k + rawLength r) (drop (rawLength r) r) refl (at-by k r (rawLength r) h (raw-le r)) (omega arith, tt)
 
-  -- controls with a name, which is no record's, and with numbers alone
-  name-in : (f : List ℕ → Act) (k : ℕ) (r : List ℕ) → ((n : List ℕ) → actName (f n) ≡ []) → At s k r → DraftIn s (closed (named (λ n. just (f n)) [] k r))
-  name-in f k r e h = closed-in (named (λ n. just (f n)) [] k r) (named-in (λ n. just (f n)) [] k r (λ n a g. rw (e n)) h tt)
+  -- controls with a name, and with numbers alone
+  name-in : (f : List ℕ → Act) (k : ℕ) (r : List ℕ) → ((n : List ℕ) → actText (f n) ≡ n) → At s k r → DraftIn s (closed (named (λ n. just (f n)) [] k r))
+  name-in f k r e h = closed-in (named (λ n. just (f n)) [] k r) (named-in (λ n. just (f n)) [] k r (λ n a g. rw (e n) g) h tt)
 
   plain-in : (c : Plain) (k : ℕ) (r : List ℕ) → At s k r → DraftIn s (closed (plainly c k r))
   plain-in c k r h = closed-in (plainly c k r) (all-in (plain c) k r (integers (plainCount c) k r) (λ ns. refl) h (integers-in (plainCount c) k r))
@@ -324,7 +374,7 @@ module _ (s : List ℕ) where
       (if-both P (is "r" b) _ _ (closed-in (resolutionOf (integers 3 k r)) (resolution-in k r (integers 3 k r) h (integers-in 3 k r)))
       (if-both P (is "i" b) _ _ (closed-in (alone init k r) (nameless init [] k r refl h tt))
       (if-both P (is "F" b) _ _ (name-in file k r (λ n. refl) h)
-      (if-both P (is "f" b) _ _ (closed-in (numberNamed (λ n m. just (mount n m)) (integers 1 k r)) (numberNamed-in (λ n m. just (mount n m)) k r (integers 1 k r) (λ m n a g. refl) h (integers-in 1 k r)))
+      (if-both P (is "f" b) _ _ (closed-in (numberNamed (λ n m. just (mount n m)) (integers 1 k r)) (numberNamed-in (λ n m. just (mount n m)) k r (integers 1 k r) (λ m n a g. g) h (integers-in 1 k r)))
       (if-both P (is "H" b) _ _ (plain-in height k r h)
       (if-both P (is "S" b) _ _ (plain-in slant k r h)
       (if-both P (is "p" b) _ _ (plain-in pause k r h)
@@ -346,7 +396,7 @@ letter-in b r =
     let P : Draft → Type 0 = DraftIn s in
     let h : At s 1 r = at-first b r in
     let g : At s (1 + spacer r) (unspaced r) = at-unspaced s 1 r h in
-    let one : (f : ℕ → Act) → ((n : ℕ) → actName (f n) ≡ []) → P (withOne f (integers 1 1 r)) = λ f e. one-in s f 1 r (integers 1 1 r) e h (integers-in 1 1 r) in
+    let one : (f : ℕ → Act) → ((n : ℕ) → actText (f n) ≡ []) → P (withOne f (integers 1 1 r)) = λ f e. one-in s f 1 r (integers 1 1 r) e h (integers-in 1 1 r) in
     if-both P (is "c" b) _ _ (byte-in s (λ x. just (glyph (x ∷ []))) (1 + spacer r) (unspaced r) (λ x. refl) g)
     (if-both P (is "C" b) _ _ (named-in s (λ n. just (glyph n)) [] 1 r (λ n a e. e) h tt)
     (if-both P (is "N" b) _ _ (one index (λ n. refl))
@@ -371,7 +421,7 @@ pub record GotIn (s : List ℕ) (c : Cmd) (a l : ℕ) : Type 0 where
   pub some : 1 ≤ l
   pub most : l ≤ length s
   pub name : a ≤ l
-  pub stands : Stands (nameOf c) a s
+  pub stands : Stands (textOf c) a s
 
 -- the place of a refusal is within the bytes
 abbrev pub Within : List ℕ → Scan → Type 0
