@@ -1,0 +1,115 @@
+-- A line of any kind, and the loop over the lines. Assumes nothing.
+use Prim.Native.Nat.{ℕ, zero, suc, _+_, _-_, _≤_, _<_}
+use mathlib.Core.Path.{_≡_, sym, ap, _∙_, subst}
+use mathlib.Core.Bool.{Bool, true, false}
+use mathlib.Core.List.{List, [], _∷_}
+use mathlib.Core.Option.{some}
+use native.Mathlib.Omega.{arith}
+use borrow.Author.Needs.{needs}
+use borrow.Author.Tests.{lt-ltb, le-ltb}
+use lib.Dec.{ltb}
+use lib.ListN.{length, take, drop, length-take, length-drop}
+use lib.Seq.{take-take, take-nil, drop-drop}
+use Rattle.rules.specs.Bytes.{bytes, same, oneLine}
+use Rattle.rules.specs.Widths.{Widths, Due, unitDue, blockDue, widthDue, behind}
+use Rattle.widths.specs.declared.State.{State}
+use Rattle.widths.specs.Slots.{partOf}
+use Rattle.widths.specs.Reading.{Holds, After, Judged, Stored, Told, unitSays, byteSays, fontSays, blockSays, widthSays, turnSays, lengthAt}
+use Rattle.widths.proofs.Texts.{key-short, key-on, key-off, rest-is}
+
+-- ---- `font=NAME`, else `byte=N`
+drop-take : (k n : ℕ) (l : List ℕ) → drop k (take n l) ≡ take (n - k) (drop k l)
+drop-take zero n l = let e : n - 0 ≡ n = omega arith in rw e
+drop-take (suc k) zero l = let e : 0 - suc k ≡ 0 = omega arith in rw e
+drop-take (suc k) (suc n) [] = sym (take-nil (suc n - suc k))
+drop-take (suc k) (suc n) (x ∷ l) = let e : suc n - suc k ≡ n - k = omega arith in rw e (drop-take k n l)
+
+part-rest : (list : List ℕ) (at len k : ℕ) → drop k (partOf list at len) ≡ partOf list (at + k) (len - k)
+part-rest list at len k = drop-take k len (drop at list) ∙ rw (drop-drop k at list)
+
+part-front : (list : List ℕ) (at len k : ℕ) → k ≤ len → take k (partOf list at len) ≡ partOf list at k
+part-front list at len k h = take-take k len (drop at list) h
+
+part-length : (list : List ℕ) (at len : ℕ) → at + len ≤ length list → length (partOf list at len) ≡ len
+part-length list at len h = omega (arith, length-take len (drop at list), length-drop at list)
+
+part-short : (list : List ℕ) (at len : ℕ) → length (partOf list at len) ≤ len
+part-short list at len = omega (arith, length-take len (drop at list))
+
+abbrev fontKey : List ℕ
+fontKey = bytes "font="
+
+module _ (list T P L t : List ℕ) (len next : ℕ) (st r : State) (et : t ≡ partOf list (st .at) len) (j : Judged next st r (byteSays t)) where
+  byte-told : (w : Widths) (d : Due) → Holds list T P L w d st → After list T P L next r (byteSays (partOf list (st .at) len) w d)
+  byte-told w d v = subst (λ (x : List ℕ). After list T P L next r (byteSays x w d)) et (j .told list T P L w d v)
+
+  pub block-short : len < 5 → Told list T P L T P L next st r (blockSays (partOf list (st .at) len))
+  block-short h = record {
+    told = λ w d v. rw (key-short fontKey (partOf list (st .at) len) (omega (arith, part-short list (st .at) len))) (byte-told w d v);
+  }
+
+  pub block-byte : (own : List ℕ) (f : Bool) → f ≡ same fontKey own → own ≡ partOf list (st .at) 5 → f ≡ false → 5 ≤ len → st .at + len ≤ length list
+      → Told list T P L T P L next st r (blockSays (partOf list (st .at) len))
+  block-byte own f e eo g h l =
+      let q : same fontKey (take 5 (partOf list (st .at) len)) ≡ false = rw (part-front list (st .at) len 5 h, ← eo) (sym e ∙ g) in
+      record {
+        told = λ w d v. rw (key-off fontKey (partOf list (st .at) len) (omega (arith, part-length list (st .at) len l)) q) (byte-told w d v);
+      }
+
+pub block-font : (list T P L T′ P′ L′ own : List ℕ) (len next : ℕ) (st r : State) (f : Bool) → f ≡ same fontKey own → own ≡ partOf list (st .at) 5 → f ≡ true → 5 ≤ len
+    → Told list T P L T′ P′ L′ next st r (fontSays (partOf list (st .at + 5) (len - 5)))
+    → Told list T P L T′ P′ L′ next st r (blockSays (partOf list (st .at) len))
+block-font list T P L T′ P′ L′ own len next st r f e eo g h v =
+    let q : same fontKey (take 5 (partOf list (st .at) len)) ≡ true = rw (part-front list (st .at) len 5 h, ← eo) (sym e ∙ g) in
+    let n : behind fontKey (partOf list (st .at) len) ≡ some (partOf list (st .at + 5) (len - 5)) = key-on fontKey (partOf list (st .at) len) q ∙ ap some (part-rest list (st .at) len 5) in
+    record { told = λ w d u. rw n (v .told w d u) }
+
+-- ---- a line of any kind
+pub line-is : (list : List ℕ) (at n : ℕ) → n ≡ oneLine (take (length list - at) (drop at list)) → n ≡ lengthAt list at
+line-is list at n e = e ∙ rw (rest-is at list)
+
+pub line-within : (list : List ℕ) (at n : ℕ) → at ≤ length list → n ≤ length (take (length list - at) (drop at list)) → at + n ≤ length list
+line-within list at n h l = omega (arith, length-take (length list - at) (drop at list), length-drop at list)
+
+module _ (list T P L : List ℕ) (st r : State) (len : ℕ) (e : len ≡ lengthAt list (st .at)) where
+  pub turn-open : length list ≤ st .at + len → r .due ≡ 3 → Told list T P L T P L (st .at + lengthAt list (st .at) + 1) st r (turnSays list (st .at))
+  turn-open h q = record { told = λ w d v. rw (le-ltb (lengthAt list (st .at)) (length (drop (st .at) list)) (omega (arith, length-drop (st .at) list))) q }
+
+  module _ (l : st .at + len < length list) where
+    ended : ltb (lengthAt list (st .at)) (length (drop (st .at) list)) ≡ true
+    ended = lt-ltb (lengthAt list (st .at)) (length (drop (st .at) list)) (omega (arith, length-drop (st .at) list))
+
+    pub turn-unit : (t : List ℕ) → st .due ≡ 0 → t ≡ partOf list (st .at) len → Judged (st .at + len + 1) st r (unitSays t)
+        → Told list T P L T P L (st .at + lengthAt list (st .at) + 1) st r (turnSays list (st .at))
+    turn-unit t h et j = record { told = by }
+      where
+        by : (w : Widths) (d : Due) → Holds list T P L w d st → After list T P L (st .at + lengthAt list (st .at) + 1) r (turnSays list (st .at) w d)
+        by w unitDue v =
+            rw ended
+            (subst (λ (n : ℕ). After list T P L (st .at + n + 1) r (unitSays (partOf list (st .at) n) w unitDue)) e
+            (subst (λ (x : List ℕ). After list T P L (st .at + len + 1) r (unitSays x w unitDue)) et (j .told list T P L w unitDue v)))
+        by w blockDue v = absurd (omega (arith, v .due))
+        by w (widthDue b) v = absurd (omega (arith, v .due))
+
+    pub turn-block : (T′ P′ L′ : List ℕ) → st .due ≡ 1 → Told list T P L T′ P′ L′ (st .at + len + 1) st r (blockSays (partOf list (st .at) len))
+        → Told list T P L T′ P′ L′ (st .at + lengthAt list (st .at) + 1) st r (turnSays list (st .at))
+    turn-block T′ P′ L′ h j = record { told = by }
+      where
+        by : (w : Widths) (d : Due) → Holds list T P L w d st → After list T′ P′ L′ (st .at + lengthAt list (st .at) + 1) r (turnSays list (st .at) w d)
+        by w unitDue v = absurd (omega (arith, v .due))
+        by w blockDue v = rw ended (subst (λ (n : ℕ). After list T′ P′ L′ (st .at + n + 1) r (blockSays (partOf list (st .at) n) w blockDue)) e (j .told w blockDue v))
+        by w (widthDue b) v = absurd (omega (arith, v .due))
+
+    pub turn-width : (T′ t : List ℕ) → t ≡ partOf list (st .at) len → Stored T T′ (st .at + len + 1) st r (widthSays t)
+        → Told list T P L T′ P L (st .at + lengthAt list (st .at) + 1) st r (turnSays list (st .at))
+    turn-width T′ t et j = record {
+      told = λ w d v.
+          rw ended
+          (subst (λ (n : ℕ). After list T′ P L (st .at + n + 1) r (widthSays (partOf list (st .at) n) w d)) e
+          (subst (λ (x : List ℕ). After list T′ P L (st .at + len + 1) r (widthSays x w d)) et (j .told list P L w d v)));
+    }
+
+pub due-width : (st : State) → (Unit {0} × (st .due ≡ 0 → ⊥)) × (st .due ≡ 1 → ⊥) → 2 ≤ st .due
+due-width st h = omega arith
+
+pub ruleset turning = (block-short, block-byte, block-font, line-is, line-within, turn-open, turn-unit, turn-block, turn-width, due-width, needs)

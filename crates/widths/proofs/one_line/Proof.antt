@@ -1,0 +1,18 @@
+use Prim.Native.Nat.{_-_}
+use lib.ListN.{length}
+use Rattle.rules.specs.Bytes.{isNotNewline}
+use Rattle.widths.proofs.Texts.{Passed, texts}
+use Rattle.widths.proofs.one_line.Statement.{statement}
+use Rattle.widths.proofs.one_line.Tie as tie
+
+abbrev Inv-loop : tie.InvT-loop
+Inv-loop t i₀ i = Passed isNotNewline t i
+
+abbrev μ-loop : tie.MeasureT-loop
+μ-loop t i₀ i = length t - i
+
+pub one-line-spec : {M : Type 1} → statement M
+one-line-spec =
+    tie.close
+    (tie.spec
+    Inv-loop μ-loop (λ c. search texts) (λ c. search texts) (λ c κs. search texts) (λ c. search texts) (λ c. search texts) (λ c. search texts) (λ c. search texts) (λ c. search texts))
