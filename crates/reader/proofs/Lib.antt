@@ -1,0 +1,7 @@
+pub mod Acts
+pub mod Words
+pub mod Commands
+pub mod Live
+pub mod Rows
+pub mod Few
+pub mod Passes

@@ -1,0 +1,91 @@
+-- What a turn does to the numbers of records and entries and to the rows. Assumes nothing.
+use Prim.Native.Nat.{ℕ, zero, suc, _+_, _-_, _<_, _≤_}
+use native.Mathlib.Omega.{arith}
+use native.Mathlib.Nat.{add-zero}
+use native.Mathlib.Numerals.{add-one}
+use mathlib.Core.Bool.{Bool, true, false}
+use mathlib.Core.List.{List, [], _∷_, _++_}
+use mathlib.Core.Path.{_≡_, refl, sym, ap, ap₂, _∙_}
+use lib.Dec.{ltb, eqb}
+use lib.ListN.{length, set}
+use lib.Seq.{sets}
+use borrow.Author.Tests.{lt-ltb, le-ltb}
+use Rattle.rules.specs.declared.Record.{Record}
+use Rattle.rules.specs.declared.Entry.{Entry}
+use Rattle.rules.specs.Bytes.{if_then_else_}
+use Rattle.laws.proofs.Cases.{on}
+use Rattle.reader.specs.declared.Environment.{Environment}
+use Rattle.reader.specs.declared.Word.{Word}
+use Rattle.reader.specs.declared.Emitted.{Emitted}
+use Rattle.reader.specs.declared.Emitted.the-variants as E
+use Rattle.reader.specs.declared.State.{State}
+use Rattle.reader.specs.declared.Effect.{Effect}
+use Rattle.reader.specs.declared.Effect.the-variants as F
+use Rattle.reader.specs.declared.Turned.{Turned}
+use Rattle.reader.specs.Words.{wordNext, wordRecord, wordRecords}
+use Rattle.reader.specs.Turns.{goneTo, filling, emitted}
+use Rattle.reader.specs.Passes.{wordFill, recordsAfter, entriesAfter}
+use Rattle.reader.proofs.Acts.{recordsIn, entriesIn}
+
+-- ---- what is written from k on, where the rows are filled
+
+abbrev pub written {ℓ} : {A : Type ℓ} → ℕ → List A → ℕ → List A → List A
+written fill old k new = if eqb fill 1 then sets old k new else old
+
+sets-append {ℓ} : {A : Type ℓ} (xs ys old : List A) (k : ℕ) → sets (sets old k xs) (k + length xs) ys ≡ sets old k (xs ++ ys)
+sets-append [] ys old k = ap (λ (i : ℕ). sets old i ys) (add-zero k)
+sets-append (x ∷ xs) ys old k =
+    let e : k + suc (length xs) ≡ suc k + length xs = omega arith in
+    ap (λ (i : ℕ). sets (sets (set old k x) (suc k) xs) i ys) e ∙ sets-append xs ys (set old k x) (suc k)
+
+pub written-append {ℓ} : {A : Type ℓ} (fill : ℕ) (xs ys old : List A) (k : ℕ) → written fill (written fill old k xs) (k + length xs) ys ≡ written fill old k (xs ++ ys)
+written-append fill xs ys old k = on (eqb fill 1) (λ e. rw e (sets-append xs ys old k)) (λ e. rw e)
+
+pub written-none {ℓ} : {A : Type ℓ} (fill : ℕ) (old : List A) (k : ℕ) → written fill old k [] ≡ old
+written-none fill old k = on (eqb fill 1) (λ e. rw e) (λ e. rw e)
+
+-- ---- a word
+
+word-sets : (n : ℕ) (s ws : List ℕ) (k : ℕ) (d : Word) (rows : List Record) → wordFill n s ws k d rows ≡ sets rows k (wordRecords n s ws d)
+unfolding wordFill wordRecords
+word-sets zero s ws k d rows = refl
+word-sets (suc n) s ws k d rows = ap (λ (i : ℕ). wordFill n s ws i (wordNext s ws d) (set rows k (wordRecord d))) (add-one k) ∙ word-sets n s ws (suc k) (wordNext s ws d) (set rows k (wordRecord d))
+
+pub word-length : (n : ℕ) (s ws : List ℕ) (d : Word) → length (wordRecords n s ws d) ≡ n
+unfolding wordRecords
+word-length zero s ws d = refl
+word-length (suc n) s ws d = ap suc (word-length n s ws (wordNext s ws d))
+
+-- ---- one turn
+
+pub record Turns (s ws : List ℕ) (n : ℕ) (st : State) (next : ℕ) (e : Environment) (x : Emitted) (t : Turned) : Type 0 where
+  pub state : t .state ≡ goneTo n st next (st .records + length (recordsIn s ws x)) (st .entries + length (entriesIn x)) e
+  pub records : (old : List Record) → recordsAfter s ws old (t .effect) ≡ written (st .fill) old (st .records) (recordsIn s ws x)
+  pub entries : (old : List Entry) → entriesAfter old (t .effect) ≡ written (st .fill) old (st .entries) (entriesIn x)
+
+module _ (s ws : List ℕ) (n : ℕ) (st : State) (next : ℕ) (e : Environment) where
+  pub emitted-turns : (x : Emitted) → st .records + length (recordsIn s ws x) ≤ st .rmax → st .entries + length (entriesIn x) ≤ st .emax → Turns s ws n st next e x (emitted n st next e x)
+  emitted-turns E.Nothing r q = record {
+    state = rw (add-zero (st .records), add-zero (st .entries));
+    records = λ old. sym (written-none (st .fill) old (st .records));
+    entries = λ old. sym (written-none (st .fill) old (st .entries));
+  }
+  emitted-turns (E.Record y) r q =
+      rw (lt-ltb (st .records) (st .rmax) (omega arith)) (record {
+        state = rw (add-zero (st .entries));
+        records = λ old. on (eqb (st .fill) 1) (λ k. rw k) (λ k. rw k);
+        entries = λ old. on (eqb (st .fill) 1) (λ k. rw k) (λ k. rw k);
+      })
+  emitted-turns (E.Entry y) r q =
+      rw (lt-ltb (st .entries) (st .emax) (omega arith)) (record {
+        state = rw (add-zero (st .records));
+        records = λ old. on (eqb (st .fill) 1) (λ k. rw k) (λ k. rw k);
+        entries = λ old. on (eqb (st .fill) 1) (λ k. rw k) (λ k. rw k);
+      })
+  emitted-turns (E.Word d) r q =
+      let l : length (wordRecords (d .left) s ws d) ≡ d .left = word-length (d .left) s ws d in
+      rw (le-ltb (st .rmax - st .records) (d .left) (omega arith)) (record {
+        state = rw (l, add-zero (st .entries));
+        records = λ old. on (eqb (st .fill) 1) (λ k. rw k (word-sets (d .left) s ws (st .records) d old)) (λ k. rw k);
+        entries = λ old. on (eqb (st .fill) 1) (λ k. rw k) (λ k. rw k);
+      })

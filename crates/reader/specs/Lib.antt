@@ -1,0 +1,4 @@
+pub mod Environment
+pub mod Words
+pub mod Turns
+pub mod Passes
