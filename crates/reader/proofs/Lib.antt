@@ -5,3 +5,4 @@ pub mod Live
 pub mod Rows
 pub mod Few
 pub mod Passes
+pub mod Fits
