@@ -1,5 +1,6 @@
 -- Bounds that the code's arithmetic rests on: of the environment, and of a command at a place. Assumes nothing.
 use Prim.Native.Nat.{ℕ, _+_, _*_, _<_, _≤_}
+use mathlib.Core.Bool.{Bool, true, false}
 use Rattle.rules.specs.Bytes.{origin}
 use Rattle.command.specs.declared.Command.{Command}
 use Rattle.command.specs.declared.Command.the-variants as C
@@ -47,3 +48,29 @@ CommandIn at n (C.Plain b q) = Ends at n q
 CommandIn at n (C.Raw q) = Ends at n q
 CommandIn at n (C.Stop q) = Ends at n q
 CommandIn at n (C.Refused i p) = Unit {0}
+
+abbrev pub isRefused : Command → Bool
+isRefused (C.Glyph p l q) = false
+isRefused (C.Index i q) = false
+isRefused (C.Word t p r q) = false
+isRefused (C.Pair i p q) = false
+isRefused (C.To x i q) = false
+isRefused (C.By x i q) = false
+isRefused (C.Page i q) = false
+isRefused (C.Font i q) = false
+isRefused (C.Size i q) = false
+isRefused (C.Colour s a b c d q) = false
+isRefused (C.Break q) = false
+isRefused (C.Space q) = false
+isRefused (C.Draw b x y k q) = false
+isRefused (C.Gray i q) = false
+isRefused (C.Fill s a b c d q) = false
+isRefused (C.Device p l q) = false
+isRefused (C.Resolution i q) = false
+isRefused (C.Init q) = false
+isRefused (C.File p l q) = false
+isRefused (C.Mount i p l q) = false
+isRefused (C.Plain b q) = false
+isRefused (C.Raw q) = false
+isRefused (C.Stop q) = false
+isRefused (C.Refused i p) = true

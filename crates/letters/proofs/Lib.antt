@@ -1,0 +1,5 @@
+pub mod Places
+pub mod Numbers
+pub mod Strings
+pub mod Words
+pub mod Steps
