@@ -1,0 +1,4 @@
+pub mod Placed
+pub mod Limits
+pub mod Colours
+pub mod Drawings
