@@ -1,0 +1,4 @@
+pub mod Places
+pub mod Forms
+pub mod Texts
+pub mod Steps
