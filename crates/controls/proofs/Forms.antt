@@ -229,4 +229,4 @@ module _ (s : List ℕ) (at i : ℕ) (p : i ≡ runEnd isSpace s (at + 1)) where
       let y : i + 1 + n ≡ at + k = omega (arith, p) in
       let d : drop n (drop (i + 1) s) ≡ drop (at + k) s = drop-drop n (i + 1) s ∙ rw y in
       rw (unspaced-at s (at + 1), ← p, cons-at s i h, d, ← z)
-      (if-alike (λ (x : Draft). draftOf at x) (isWhite b) _ _ _ _ (rw add-zero) (control-is b s at k))
+      (if-alike (λ (x : Draft). draftOf at x) (isWhite b) (fault 3) (control b k (drop (at + k) s)) (K.Refused 3 at) (byControl b s at (at + k)) (rw add-zero) (control-is b s at k))

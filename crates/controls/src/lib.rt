@@ -89,7 +89,7 @@ fn short_name(place: usize, len: usize, c: Command) -> Command
     within(len <= 64, place, c)
 }
 
-// `T`: of the command at a place, the arguments from i on. So below.
+// `T`. Here and below, the command's place is `at`, and its arguments stand from i on.
 fn device(s: &[u8], at: usize, i: usize) -> Command
     ensures { λ r. ⌜ r ≡ deviceAt (now (s .entry)) at i ⌝ }
 {
@@ -216,7 +216,7 @@ fn text_at(s: &[u8], at: usize) -> Text
     }
 }
 
-// `X`: its line need not break, since it is raw to its end.
+// `X`, for which the rule on line breaks does not hold.
 fn raw(s: &[u8], i: usize) -> Command
     ensures { λ r. ⌜ r ≡ rawAt (now (s .entry)) i ⌝ }
 {

@@ -3,25 +3,29 @@ use Prim.Native.Nat.{ℕ, suc, _+_, _<_, _≤_}
 use native.Mathlib.Omega.{arith}
 use mathlib.Core.Bool.{Bool, true, false, _||_}
 use mathlib.Core.List.{List, [], _∷_, _++_, map, map-map}
+use mathlib.Core.Logic.{_⊎_, inl, inr}
 use mathlib.Core.Path.{_≡_, refl, sym, ap, ap₂, _∙_}
+use lib.Dec.{ltb, eqb}
 use lib.ListN.{length}
-use Rattle.rules.specs.Bytes.{if_then_else_}
+use borrow.Author.Tests.{ltb-true, le-ltb}
+use Rattle.rules.specs.Bytes.{if_then_else_, isSpace, isWhite, span, value, integer, integers, perhapsInteger}
 use Rattle.rules.specs.Act.{Act, Cmd, just, word, pair}
-use Rattle.rules.specs.Scan.{Cmds, commands}
+use Rattle.rules.specs.Letters.{named}
+use Rattle.rules.specs.Scan.{Cmds, letter, commands}
 use Rattle.rules.specs.Widths.{Widths, WidthList, unsound, sound, widthList}
 use Rattle.rules.specs.State.{corner, Env, start, Glyph, Item, Step, refused, went, steps}
 use Rattle.rules.specs.Record.{GlyphRow, Answer, refuse, answer, follow, seen}
 use Rattle.rules.specs.House.{played, spelling, spellAll}
 use Rattle.rules.specs.Find.{Wanted, Key, key, hitsFrom, Query, illFormed, wellFormed, query}
-use Rattle.rules.specs.Answers.{streamMost, isOver, read, isAccepted, Spelling, notSpelled, spelled, spellIf, spellWith, respell, Found, notFound, found, keyOf, hitsIn, findAsked, findWith, find}
+use Rattle.rules.specs.Answers.{streamMost, isOver, read, isAccepted, Spelling, notSpelled, spelled, spellIf, spellWith, respell, Found, notFound, found, keyOf, hitsIn, findAsked, findWith, find, readInto, respellInto, findInto}
 use Rattle.laws.proofs.Cases.{on, no}
 use Rattle.laws.proofs.Good.{AllGood}
 use Rattle.reading.specs.Outline.{Mark, byteMark, marksOf, outline, keysFrom}
 use Rattle.reading.proofs.Runs.{well}
 use Rattle.reading.proofs.Play.{spelling-read, spelling-again}
 use Rattle.reading.proofs.Alike.{glyphsOf, keys-of}
-use Rattle.reading.specs.Pages.{pageNumbers}
-use Rattle.reading.proofs.Pages.{spelling-pages}
+use Rattle.reading.specs.Kept.{unmotioned}
+use Rattle.reading.proofs.Kept.{spelling-kept}
 use Rattle.reading.proofs.Placed.{didGo, seen-follow, seen-goes, goes-well, says, finish-well}
 use Rattle.reading.proofs.Spells.{played-fair, house-good}
 use Rattle.printed.proofs.Trip.{placed, round-trip, bare-placed, placed-ended}
@@ -30,7 +34,7 @@ use Rattle.finding.proofs.Exact.{hits-rise, hits-occur, occurs-hits}
 use Rattle.finding.proofs.Asked.{query-shape, shape-some}
 use Rattle.scanned.proofs.Fair.{commands-good}
 use Rattle.scanned.proofs.Names.{AllRows, RowIn, RowsOf, read-stands}
-use Rattle.theorems.specs.Statements.{Accepted, glyphsIn, rowsIn, itemsIn, pagesIn, endIn, glyphPaintIn, fillPaintIn, SameReading, ReadAgain, RoundTrip, FixedPoint, Exact, Exactness, Told, refusedAt, listed, told, cmdsOf, ByOutline, single, ByAnyCommand, nameIn, NamesIn, NamesOf, NamesStand, Alike, Likeness}
+use Rattle.theorems.specs.Statements.{Accepted, glyphsIn, rowsIn, itemsIn, pagesIn, endIn, glyphPaintIn, fillPaintIn, SameReading, ReadAgain, RoundTrip, FixedPoint, Exact, Exactness, Told, refusedAt, listed, told, cmdsOf, actsOf, OneSpelling, Answered, OneByte, Roomy, ByOutline, single, ByAnyCommand, nameIn, NamesIn, NamesOf, NamesStand, Alike, Likeness}
 
 -- ---- an accepted stream
 
@@ -97,6 +101,13 @@ module _ (v : Widths) (s : List ℕ) (g : well (steps v start (cmdsOf s)) ≡ tr
   spelling-text : spellAll (spelling v (cmdsOf (spellAll (spelling v (cmdsOf s))))) ≡ spellAll (spelling v (cmdsOf s))
   spelling-text = rw spelling-bare (ap spellAll (spelling-again v (cmdsOf s) g))
 
+abbrev widthsIn : Widths → WidthList → Widths
+widthsIn w (unsound at) = w
+widthsIn w (sound v) = v
+
+sound-same : (v w : Widths) → sound v ≡ sound w → v ≡ w
+sound-same v w h = ap (widthsIn v) h
+
 -- what it says that a spelling was given
 abbrev isSpelled : Spelling → Bool
 isSpelled (notSpelled n at) = false
@@ -129,7 +140,7 @@ pub record Again (s list t : List ℕ) : Type 0 where
   pub spelling-accepted : Accepted t list
   pub alike : seen (read t list) ≡ seen (read s list)
   pub same : respell t list ≡ spelled t
-  pub numbers : pageNumbers (cmdsOf t) ≡ pageNumbers (cmdsOf s)
+  pub kept : (w : Widths) → widthList list ≡ sound w → unmotioned (actsOf w t) ≡ unmotioned (actsOf w s)
 
 pub again : (s list t : List ℕ) → respell s list ≡ spelled t → Again s list t
 unfolding respell
@@ -143,12 +154,13 @@ again s list t h = first (spelt (spellWith s (widthList list)) t (read s list) h
         ap seen (read-follow t list zt) ∙ rw (← e) (spelling-follow (z .widths) s g) ∙ sym (read-says s list z a) in
         let b : Accepted t list = sym (seen-goes (read t list)) ∙ ap didGo r ∙ seen-goes (read s list) ∙ a in
         let x : spellAll (spelling (z .widths) (cmdsOf t)) ≡ t = rw (← e) (spelling-text (z .widths) s g) in
+        let kept-here : unmotioned (actsOf (z .widths) t) ≡ unmotioned (actsOf (z .widths) s) = rw (← e, spelling-bare (z .widths) s g) (spelling-kept (z .widths) (cmdsOf s) g) in
         record {
           stream-accepted = a;
           spelling-accepted = b;
           alike = r;
           same = rw (z .list-sound, x) (spells t (read t list) b f);
-          numbers = rw (← e, spelling-bare (z .widths) s g) (spelling-pages (z .widths) (cmdsOf s) g);
+          kept = λ w q. rw (← sound-same (z .widths) w (sym (z .list-sound) ∙ q)) kept-here;
         }
 
     second : (z : Sound s list) → Spelt (spellWith s (widthList list)) t (read s list) → Again s list t
@@ -186,11 +198,45 @@ roundTrip s list t h = go (again s list t h)
       stream-accepted = a .stream-accepted;
       spelling-accepted = a .spelling-accepted;
       same = same-reading (read t list) (read s list) (a .spelling-accepted) (a .stream-accepted) (a .alike);
-      page-numbers = a .numbers;
+      kept = a .kept;
     }
 
 pub fixedPoint : FixedPoint
 fixedPoint s list t h = again s list t h .same
+
+-- ---- the one spelling
+
+or-left : (a b : Bool) → (a || b) ≡ false → a ≡ false
+or-left true b h = h
+or-left false b h = refl
+
+spelled-or : (t : List ℕ) (a : Answer) → isAccepted a ≡ true → (spellIf t a ≡ spelled t) ⊎ ((spellIf t a ≡ notSpelled 13 0) × (streamMost < length t))
+spelled-or t (refuse n at) h = no h
+spelled-or t (answer rs xs e) h = on (isOver streamMost t) (λ k. rw k (inr (refl, ltb-true streamMost (length t) k))) (λ k. rw k (inl refl))
+
+same-if : (t t′ : List ℕ) (a b : Answer) → t ≡ t′ → isAccepted a ≡ true → isAccepted b ≡ true → spellIf t a ≡ spellIf t′ b
+same-if t t′ (refuse n at) b e h k = no h
+same-if t t′ (answer rs xs d) (refuse n at) e h k = no k
+same-if t t′ (answer rs xs d) (answer rs′ xs′ d′) e h k = rw e
+
+same-commands : (s s′ list : List ℕ) → Accepted s list → Accepted s′ list → cmdsOf s ≡ cmdsOf s′ → respell s list ≡ respell s′ list
+unfolding respell
+same-commands s s′ list h k e = go (widthList list)
+  where
+    go : (x : WidthList) → spellIf (spellWith s x) (read s list) ≡ spellIf (spellWith s′ x) (read s′ list)
+    go (unsound at) = same-if [] [] (read s list) (read s′ list) refl h k
+    go (sound v) = same-if (spellAll (spelling v (cmdsOf s))) (spellAll (spelling v (cmdsOf s′))) (read s list) (read s′ list) (rw e) h k
+
+refused-spelling : (s list : List ℕ) (n at : ℕ) → read s list ≡ refuse n at → respell s list ≡ notSpelled n at
+unfolding respell
+refused-spelling s list n at h = rw h
+
+given-spelling : (s list : List ℕ) → Accepted s list → (t : List ℕ) × ((respell s list ≡ spelled t) ⊎ ((respell s list ≡ notSpelled 13 0) × (streamMost < length t)))
+unfolding respell
+given-spelling s list h = (spellWith s (widthList list), spelled-or (spellWith s (widthList list)) (read s list) h)
+
+pub oneSpelling : OneSpelling
+oneSpelling = record { by-commands = same-commands; accepted = given-spelling; refused = refused-spelling }
 
 -- ---- finding
 
@@ -265,8 +311,20 @@ unfolding outline
 word-glyphs n [] cs = refl
 word-glyphs n (b ∷ bs) cs = ap (λ (l : List Mark). byteMark b ∷ l) (word-glyphs n bs cs)
 
+one-byte-by : (b : ℕ) (r : List ℕ) → isWhite b ≡ false → OneByte b r
+unfolding letter named integers integer perhapsInteger span value
+one-byte-by b r h =
+    let k : isSpace b ≡ false = or-left (isSpace b) (eqb b 10) h in
+    record {
+      by-c = rw (k, h);
+      by-C = rw (k, h);
+      by-t = rw (k, h);
+      by-u = rw (k, h);
+      by-digits = rw (k, h);
+    }
+
 pub byAnyCommand : ByAnyCommand
-byAnyCommand = record { by-outline = byOutline; swap = swap-outline; by-word = λ n b. refl; by-two-digits = λ n b. refl; word-by-glyphs = word-glyphs }
+byAnyCommand = record { one-byte = one-byte-by; by-outline = byOutline; swap = swap-outline; by-word = λ n b. refl; by-two-digits = λ n b. refl; word-by-glyphs = word-glyphs }
 
 -- ---- the list is exact
 
@@ -316,6 +374,19 @@ found-sound s list q rs is h =
     go k j (unsound at) e a = no (ap isFound a)
     go k j (sound v) e a = record { widths = v; list-sound = e; stream-short = k; list-short = j }
 
+-- and the stream is accepted
+found-accepted : (s list q : List ℕ) (rs : List GlyphRow) (is : List ℕ) → find s list q ≡ found rs is → Accepted s list
+found-accepted s list q rs is h = go (isOver 8_192 q) (query q) (sym (find-searched s list q (found-sound s list q rs is h)) ∙ h)
+  where
+    read-in : (qs : List Wanted) (a : Answer) → hitsIn qs a ≡ found rs is → isAccepted a ≡ true
+    read-in qs (refuse n at) k = no (ap isFound k)
+    read-in qs (answer rs′ xs e) k = refl
+
+    go : (b : Bool) (x : Query) → searchedIf b (read s list) x ≡ found rs is → Accepted s list
+    go true x k = no (ap isFound k)
+    go false (illFormed at) k = no (ap isFound k)
+    go false (wellFormed qs) k = read-in qs (read s list) k
+
 pub exactness : Exactness
 exactness s list q rs is h = go (searched-if s list q rs is (isOver 8_192 q) (query q) refl (sym (find-searched s list q (found-sound s list q rs is h)) ∙ h))
   where
@@ -331,6 +402,7 @@ exactness s list q rs is h = go (searched-if s list q rs is (isOver 8_192 q) (qu
           glyphs = qs;
           asked = x .asked;
           shape = shape;
+          accepted = found-accepted s list q rs is h;
           records = x .records;
           rising = rw (x .hits) (hits-rise qs (map keyOf rs));
           only = only;
@@ -371,3 +443,52 @@ pub likeness : Likeness
 likeness s list s′ list′ h h′ a =
     found-by-keys s list s′ list′ h h′
     (alike-keys s (rowsIn (read s list)) s′ (rowsIn (read s′ list′)) (rows-names s (read s list) (namesStand s list)) (rows-names s′ (read s′ list′) (namesStand s′ list′)) a)
+
+-- ---- every well-formed query is answered
+
+sound-or : (s list : List ℕ) (x : WidthList) → widthList list ≡ x → isOver streamMost s ≡ false → isOver 65_536 list ≡ false → (n at : ℕ) → read s list ≡ refuse n at → (q : List ℕ) (qs : List Wanted)
+    → query q ≡ wellFormed qs → isOver 8_192 q ≡ false → find s list q ≡ notFound n at
+unfolding read find
+sound-or s list (unsound at′) e k j n at h q qs a o = rw (k, j, o, e) (refused-as (rw (k, j, e) at h))
+  where
+    numbersOf : Answer → Found
+    numbersOf (refuse m b) = notFound m b
+    numbersOf (answer rs xs d) = notFound 0 0
+
+    refused-as : refuse 2 at′ ≡ refuse n at → notFound 2 at′ ≡ notFound n at
+    refused-as z = ap numbersOf z
+sound-or s list (sound v) e k j n at h q qs a o = rw (k, j, o, e, a, rw (k, j, e) at h)
+
+refused-find : (s list q : List ℕ) (qs : List Wanted) (n at : ℕ) → query q ≡ wellFormed qs → isOver 8_192 q ≡ false → read s list ≡ refuse n at → find s list q ≡ notFound n at
+unfolding read find
+refused-find s list q qs n at a o h =
+    on (isOver streamMost s) (λ k. rw k (ap numbersOf (rw k at h)))
+    (λ k. on (isOver 65_536 list) (λ j. rw (k, j) (ap numbersOf (rw (k, j) at h))) (λ j. sound-or s list (widthList list) refl k j n at h q qs a o))
+  where
+    numbersOf : Answer → Found
+    numbersOf (refuse m b) = notFound m b
+    numbersOf (answer rs xs d) = notFound 0 0
+
+accepted-find : (s list q : List ℕ) (qs : List Wanted) → Accepted s list → query q ≡ wellFormed qs → isOver 8_192 q ≡ false
+    → find s list q ≡ found (rowsIn (read s list)) (hitsFrom qs 0 (map keyOf (rowsIn (read s list))))
+accepted-find s list q qs h a o = find-searched s list q (sound-of s list h) ∙ rw (o, a) (go (read s list) h)
+  where
+    go : (x : Answer) → isAccepted x ≡ true → hitsIn qs x ≡ found (rowsIn x) (hitsFrom qs 0 (map keyOf (rowsIn x)))
+    go (refuse n at) k = no k
+    go (answer rs xs e) k = refl
+
+pub answered : Answered
+answered = record { accepted = accepted-find; refused = refused-find }
+
+-- ---- enough room
+
+enough : (n m : ℕ) → n ≤ m → ltb m n ≡ false
+enough n m h = le-ltb m n h
+
+pub roomy : Roomy
+unfolding readInto respellInto findInto
+roomy = record {
+  reader = λ records entries s list rs xs e h a b. rw (h, enough (length rs) records a, enough (length xs) entries b);
+  rewriter = λ room s list t h a. rw (h, enough (length t) room a);
+  finder = λ records hits s list q rs is h a b. rw (h, enough (length rs) records a, enough (length is) hits b);
+}

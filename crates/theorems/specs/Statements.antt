@@ -3,16 +3,20 @@
 use Prim.Native.Nat.{ℕ, _+_, _<_, _≤_}
 use mathlib.Core.Bool.{Bool, true, false}
 use mathlib.Core.List.{List, [], _∷_, _++_, map}
+use mathlib.Core.Logic.{_⊎_}
 use mathlib.Core.Path.{_≡_}
 use lib.ListN.{length, take, drop}
+use Rattle.rules.specs.Bytes.{isWhite, origin}
 use Rattle.rules.specs.Act.{Act, glyph, Cmd, just, word, pair}
-use Rattle.rules.specs.Scan.{commands, bare}
-use Rattle.rules.specs.State.{Spot, corner, Paint, noPaint, Glyph, Item}
+use Rattle.rules.specs.House.{played}
+use Rattle.rules.specs.Scan.{got, command, commands, bare}
+use Rattle.rules.specs.Widths.{Widths, sound, widthList}
+use Rattle.rules.specs.State.{Spot, corner, Paint, noPaint, Env, Glyph, Item, start}
 use Rattle.rules.specs.Record.{GlyphRow, ItemRow, Answer, refuse, answer}
-use Rattle.rules.specs.Find.{Wanted, Query, wellFormed, query}
-use Rattle.rules.specs.Answers.{read, isAccepted, Spelling, spelled, respell, Found, notFound, found, keyOf, find}
+use Rattle.rules.specs.Find.{Wanted, Query, wellFormed, query, hitsFrom}
+use Rattle.rules.specs.Answers.{streamMost, isOver, read, readInto, isAccepted, Spelling, notSpelled, spelled, respell, respellInto, Found, notFound, found, keyOf, find, findInto}
 use Rattle.reading.specs.Outline.{Mark, marksOf, outline}
-use Rattle.reading.specs.Pages.{pageNumbers}
+use Rattle.reading.specs.Kept.{unmotioned}
 use Rattle.finding.specs.Occurs.{QueryShape, OccursAt, Elem, Rising}
 
 -- "A stream is accepted where, with its width list, no reason but 13 is against it"
@@ -60,21 +64,33 @@ pub record SameReading (a b : Answer) : Type 0 where
   pub glyph-colour : glyphPaintIn a ≡ glyphPaintIn b
   pub fill-colour : fillPaintIn a ≡ fillPaintIn b
 
--- the commands of a stream
+-- the commands of a stream, and the single acts that they come to
 abbrev pub cmdsOf : List ℕ → List Cmd
 cmdsOf s = bare (commands 0 0 s)
+
+abbrev pub actsOf : Widths → List ℕ → List Act
+actsOf w s = played w start (cmdsOf s)
+
+-- "Every command but motions is kept in order, repeats too": the spelling's acts but motions are the stream's
 
 pub record ReadAgain (s list t : List ℕ) : Type 0 where
   pub stream-accepted : Accepted s list
   pub spelling-accepted : Accepted t list
   pub same : SameReading (read t list) (read s list)
-  pub page-numbers : pageNumbers (cmdsOf t) ≡ pageNumbers (cmdsOf s)
+  pub kept : (w : Widths) → widthList list ≡ sound w → unmotioned (actsOf w t) ≡ unmotioned (actsOf w s)
 
 abbrev pub RoundTrip : Type 0
 RoundTrip = (s list t : List ℕ) → respell s list ≡ spelled t → ReadAgain s list t
 
 abbrev pub FixedPoint : Type 0
 FixedPoint = (s list t : List ℕ) → respell s list ≡ spelled t → respell t list ≡ spelled t
+
+-- "the one house spelling": it goes by the commands alone; an accepted stream has one, unless it is too long, and any other
+-- stream is refused as the reader refuses it
+pub record OneSpelling : Type 0 where
+  pub by-commands : (s s′ list : List ℕ) → Accepted s list → Accepted s′ list → cmdsOf s ≡ cmdsOf s′ → respell s list ≡ respell s′ list
+  pub accepted : (s list : List ℕ) → Accepted s list → (t : List ℕ) × ((respell s list ≡ spelled t) ⊎ ((respell s list ≡ notSpelled 13 0) × (streamMost < length t)))
+  pub refused : (s list : List ℕ) (n at : ℕ) → read s list ≡ refuse n at → respell s list ≡ notSpelled n at
 
 -- ---- "name (its place and length in the stream)": the bytes at a record's place are its name
 
@@ -99,6 +115,7 @@ pub record Exact (s list q : List ℕ) (rs : List GlyphRow) (is : List ℕ) : Ty
   pub glyphs : List Wanted
   pub asked : query q ≡ wellFormed glyphs
   pub shape : QueryShape glyphs
+  pub accepted : Accepted s list
   pub records : rowsIn (read s list) ≡ rs
   pub rising : Rising is
   pub only : (i : ℕ) → Elem i is → OccursAt glyphs (map keyOf rs) i
@@ -107,6 +124,12 @@ pub record Exact (s list q : List ℕ) (rs : List GlyphRow) (is : List ℕ) : Ty
 
 abbrev pub Exactness : Type 0
 Exactness = (s list q : List ℕ) (rs : List GlyphRow) (is : List ℕ) → find s list q ≡ found rs is → Exact s list q rs is
+
+-- a well-formed query on an accepted stream is answered, on any other stream refused as the reader refuses it
+pub record Answered : Type 0 where
+  pub accepted : (s list q : List ℕ) (qs : List Wanted) → Accepted s list → query q ≡ wellFormed qs → isOver 8_192 q ≡ false
+      → find s list q ≡ found (rowsIn (read s list)) (hitsFrom qs 0 (map keyOf (rowsIn (read s list))))
+  pub refused : (s list q : List ℕ) (qs : List Wanted) (n at : ℕ) → query q ≡ wellFormed qs → isOver 8_192 q ≡ false → read s list ≡ refuse n at → find s list q ≡ notFound n at
 
 -- what the finder tells of a stream: a refusal; or the list, and how many records there are
 pub data Told : Type 0 where
@@ -124,11 +147,20 @@ abbrev pub ByOutline : Type 0
 ByOutline = (s list s′ list′ : List ℕ) → Accepted s list → Accepted s′ list′ → outline (cmdsOf s) ≡ outline (cmdsOf s′)
     → (q : List ℕ) → told (find s list q) ≡ told (find s′ list′ q)
 
+-- a one-byte name b by each of the five, in front of a newline: `cb`, `Cb`, `tb`, `u0 b`, `00b`
+pub record OneByte (b : ℕ) (r : List ℕ) : Type 0 where
+  pub by-c : command 99 (b ∷ 10 ∷ r) ≡ got (just (glyph (b ∷ []))) 1 2
+  pub by-C : command 67 (b ∷ 10 ∷ r) ≡ got (just (glyph (b ∷ []))) 1 2
+  pub by-t : command 116 (b ∷ 10 ∷ r) ≡ got (word origin (b ∷ [])) 1 2
+  pub by-u : command 117 (48 ∷ 32 ∷ b ∷ 10 ∷ r) ≡ got (word origin (b ∷ [])) 3 4
+  pub by-digits : command 48 (48 ∷ b ∷ 10 ∷ r) ≡ got (pair origin b) 2 3
+
 -- a command may stand for another of the same outline, anywhere; a word or two digits have the outline of single glyphs
 abbrev pub single : ℕ → Cmd
 single b = just (glyph (b ∷ []))
 
 pub record ByAnyCommand : Type 0 where
+  pub one-byte : (b : ℕ) (r : List ℕ) → isWhite b ≡ false → OneByte b r
   pub by-outline : ByOutline
   pub swap : (xs ys : List Cmd) (c c′ : Cmd) → marksOf c ≡ marksOf c′ → outline (xs ++ c ∷ ys) ≡ outline (xs ++ c′ ∷ ys)
   pub by-word : (n b : ℕ) → marksOf (word n (b ∷ [])) ≡ marksOf (single b)
@@ -148,3 +180,12 @@ Alike s (r ∷ rs) s′ (r′ ∷ rs′) =
 abbrev pub Likeness : Type 0
 Likeness = (s list s′ list′ : List ℕ) → Accepted s list → Accepted s′ list′ → Alike s (rowsIn (read s list)) s′ (rowsIn (read s′ list′))
     → (q : List ℕ) → told (find s list q) ≡ told (find s′ list′ q)
+
+-- ---- "Rows with a place for each record and hit, in the reader for each record and entry, are large enough."
+
+pub record Roomy : Type 0 where
+  pub reader : (records entries : ℕ) (s list : List ℕ) (rs : List GlyphRow) (xs : List ItemRow) (e : Env) → read s list ≡ answer rs xs e → length rs ≤ records → length xs ≤ entries
+      → readInto records entries s list ≡ answer rs xs e
+  pub rewriter : (room : ℕ) (s list t : List ℕ) → respell s list ≡ spelled t → length t ≤ room → respellInto room s list ≡ spelled t
+  pub finder : (records hits : ℕ) (s list q : List ℕ) (rs : List GlyphRow) (is : List ℕ) → find s list q ≡ found rs is → length rs ≤ records → length is ≤ hits
+      → findInto records hits s list q ≡ found rs is
