@@ -46,7 +46,7 @@ fn check(number: usize, case: &Case, routine: Routine) -> Check {
     let (word, computed, answer) = match routine {
         Routine::Reader => (
             "reader",
-            format!("readText (readInto {records} {entries} {s} {l})"),
+            format!("readText {s} (readInto {records} {entries} {s} {l})"),
             Second.glyphs(stream, list, rooms),
         ),
         Routine::Rewriter => (

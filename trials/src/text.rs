@@ -2,71 +2,101 @@
 //! It is kept as a string because no antt file may stand outside the listed crates.
 
 /// The file `specs/Text.antt` of the temporary crate.
-pub const TEXT: &str = r#"-- FORMATS.md's text of the answers
+pub const TEXT: &str = r#"-- FORMATS.md's text of the answers, as the promises have them: what the routines answer, and what they leave in the rows
 use Prim.Native.Nat.{ℕ, _+_}
 use mathlib.Core.Bool.{Bool, true, false}
-use mathlib.Core.List.{List, [], _∷_, _++_, map}
-use lib.ListN.{length}
-use Rattle.rules.specs.Bytes.{if_then_else_, bytes}
+use mathlib.Core.List.{List, [], _∷_, _++_}
+use lib.IntN.{ℤ, pos, negsuc}
+use lib.ListN.{length, take, drop}
 use lib.Dec.{eqb}
-use Rattle.rules.specs.State.{Glyph, Item, Spot, Paint, Env}
-use Rattle.rules.specs.Record.{GlyphRow, ItemRow, Answer, refuse, answer, EntryLetters, lettersOf, schemeLetter}
-use Rattle.rules.specs.House.{decimal, signedDecimal}
-use Rattle.rules.specs.Answers.{Spelling, notSpelled, spelled, Found, notFound, found}
+use Rattle.rules.specs.declared.Record.{Record}
+use Rattle.rules.specs.declared.Entry.{Entry}
+use Rattle.rules.specs.declared.Colour.{Colour}
+use Rattle.rules.specs.declared.ReadAnswer.{ReadAnswer}
+use Rattle.rules.specs.declared.ReadAnswer.the-variants as R
+use Rattle.rules.specs.declared.Reading.{Reading}
+use Rattle.rules.specs.declared.Respelling.{Respelling}
+use Rattle.rules.specs.declared.Respelling.the-variants as S
+use Rattle.rules.specs.declared.Finding.{Finding}
+use Rattle.rules.specs.declared.Finding.the-variants as F
+use Rattle.rules.specs.Bytes.{if_then_else_, bytes}
+use Rattle.rules.specs.Record.{Answer}
+use Rattle.rules.specs.House.{decimal}
+use Rattle.rules.specs.Answers.{Spelling, Found, readingOf, recordsOver, entriesOver, respellingOf, bufferOver, findingOf, recordsFound, hitsOver}
 
 abbrev pub sp : List ℕ → List ℕ → List ℕ
 sp a b = a ++ 32 ∷ b
 
-abbrev pub letters : EntryLetters → List ℕ
-letters l = l .command ∷ l .letter ∷ (if eqb (l .scheme) 0 then [] else l .scheme ∷ [])
+abbrev pub integerText : ℤ → List ℕ
+integerText (pos n) = decimal n
+integerText (negsuc n) = 45 ∷ decimal (n + 1)
 
 abbrev pub refusedText : ℕ → ℕ → List ℕ
 refusedText n at = sp (bytes "refused") (sp (decimal n) (decimal at)) ++ 10 ∷ []
 
-abbrev pub glyphText : GlyphRow → List ℕ
-glyphText r =
-    sp (bytes "glyph") (sp (decimal (r .glyph .ordinal)) (sp (signedDecimal (r .glyph .number)) (sp (signedDecimal (r .glyph .spot .h)) (sp (signedDecimal (r .glyph .spot .v))
-    (sp (decimal (r .glyph .font)) (sp (decimal (r .glyph .size)) (sp (decimal (r .glyph .gap)) (sp (decimal (r .glyph .index)) (sp (decimal (r .place)) (sp (decimal (length (r .glyph .name))) (r .glyph .name)))))))))))
+abbrev pub glyphText : List ℕ → Record → List ℕ
+glyphText s r =
+    sp (bytes "glyph") (sp (decimal (r .ordinal)) (sp (integerText (r .page)) (sp (integerText (r .h)) (sp (integerText (r .v))
+    (sp (decimal (r .font)) (sp (decimal (r .size)) (sp (decimal (r .gap)) (sp (decimal (r .index)) (sp (decimal (r .place)) (sp (decimal (r .len)) (take (r .len) (drop (r .place) s))))))))))))
     ++ 10 ∷ []
 
-abbrev pub entryText : ItemRow → List ℕ
+abbrev pub lettersText : Entry → List ℕ
+lettersText x = x .command ∷ x .letter ∷ (if eqb (x .scheme) 0 then [] else x .scheme ∷ [])
+
+abbrev pub entryText : Entry → List ℕ
 entryText x =
-    sp (bytes "entry") (sp (letters (lettersOf (x .item .act))) (sp (decimal (x .item .ordinal)) (sp (decimal (x .place)) (sp (decimal (x .len)) (sp (signedDecimal (x .item .spot .h)) (signedDecimal (x .item .spot .v)))))))
+    sp (bytes "entry") (sp (lettersText x) (sp (decimal (x .ordinal)) (sp (decimal (x .place)) (sp (decimal (x .len)) (sp (integerText (x .h)) (integerText (x .v)))))))
     ++ 10 ∷ []
 
 unfoldable pub parts : List ℕ → List ℕ
 parts [] = []
 parts (n ∷ ns) = 32 ∷ (decimal n ++ parts ns)
 
-abbrev pub paintText : Paint → List ℕ
-paintText c = schemeLetter (c .scheme) ∷ parts (c .parts)
+abbrev pub colourText : Colour → List ℕ
+colourText c = c .scheme ∷ parts (c .parts)
 
-unfoldable pub glyphTexts : List GlyphRow → List ℕ
-glyphTexts [] = []
-glyphTexts (r ∷ rs) = glyphText r ++ glyphTexts rs
+unfoldable pub glyphTexts : List ℕ → List Record → List ℕ
+glyphTexts s [] = []
+glyphTexts s (r ∷ rs) = glyphText s r ++ glyphTexts s rs
 
-unfoldable pub entryTexts : List ItemRow → List ℕ
+unfoldable pub entryTexts : List Entry → List ℕ
 entryTexts [] = []
-entryTexts (r ∷ rs) = entryText r ++ entryTexts rs
+entryTexts (x ∷ xs) = entryText x ++ entryTexts xs
 
 unfoldable pub hitTexts : List ℕ → List ℕ
 hitTexts [] = []
 hitTexts (n ∷ ns) = (sp (bytes "hit") (decimal n) ++ 10 ∷ []) ++ hitTexts ns
 
-unfoldable pub readText : Answer → List ℕ
-readText (refuse n at) = refusedText n at
-readText (answer rs xs e) =
-    glyphTexts rs ++ (entryTexts xs ++
-    (sp (bytes "end") (sp (decimal (length rs)) (sp (decimal (length xs)) (sp (decimal (e .ordinal)) (sp (signedDecimal (e .spot .h)) (sp (signedDecimal (e .spot .v)) (sp (paintText (e .glyphPaint)) (paintText (e .fillPaint))))))))
+-- what the rows held before: it must not be read
+abbrev pub oldRecords : List Record
+oldRecords = record { ordinal = 9; page = pos 9; h = pos 9; v = pos 9; font = 9; size = 9; place = 9; len = 9; index = 9; gap = 9 } ∷ []
+
+abbrev pub oldEntries : List Entry
+oldEntries = record { command = 9; letter = 9; scheme = 9; ordinal = 9; place = 9; len = 9; h = pos 9; v = pos 9 } ∷ []
+
+abbrev pub readingText : List ℕ → List Record → List Entry → Reading → ReadAnswer → List ℕ
+readingText s rs xs a (R.Refused n at) = refusedText n at
+readingText s rs xs a (R.Accepted n m p h v) =
+    glyphTexts s (take n rs) ++ (entryTexts (take m xs) ++
+    (sp (bytes "end") (sp (decimal n) (sp (decimal m) (sp (decimal p) (sp (integerText h) (sp (integerText v) (sp (colourText (a .glyph)) (colourText (a .fill))))))))
     ++ 10 ∷ []))
 
+unfoldable pub readText : List ℕ → Answer → List ℕ
+readText s a = readingText s (recordsOver oldRecords a) (entriesOver oldEntries a) (readingOf a) (readingOf a .answer)
+
+abbrev pub respellingText : List ℕ → Respelling → List ℕ
+respellingText t (S.Refused n at) = refusedText n at
+respellingText t (S.Accepted n) = take n t
+
 unfoldable pub spellText : Spelling → List ℕ
-spellText (notSpelled n at) = refusedText n at
-spellText (spelled t) = t
+spellText x = respellingText (bufferOver (9 ∷ 9 ∷ []) x) (respellingOf x)
+
+abbrev pub findingText : List ℕ → Finding → List ℕ
+findingText is (F.Refused n at) = refusedText n at
+findingText is (F.Accepted n m) = hitTexts (take m is) ++ (sp (bytes "found") (sp (decimal n) (decimal m)) ++ 10 ∷ [])
 
 unfoldable pub findText : Found → List ℕ
-findText (notFound n at) = refusedText n at
-findText (found rs is) = hitTexts is ++ (sp (bytes "found") (sp (decimal (length rs)) (decimal (length is))) ++ 10 ∷ [])
+findText f = findingText (hitsOver (9 ∷ 9 ∷ []) f) (findingOf f)
 
 unfoldable pub texts : Unit {0}
 unfolding parts glyphTexts entryTexts hitTexts readText spellText findText

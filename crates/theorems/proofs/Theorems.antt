@@ -7,7 +7,7 @@ use mathlib.Core.Logic.{_⊎_, inl, inr}
 use mathlib.Core.Path.{_≡_, refl, sym, ap, ap₂, _∙_}
 use lib.Dec.{ltb, eqb}
 use lib.ListN.{length}
-use borrow.Author.Tests.{ltb-true, le-ltb}
+use borrow.Author.Tests.{ltb-true, le-ltb, lt-ltb, le-leb, lt-leb}
 use Rattle.rules.specs.Bytes.{if_then_else_, isSpace, isWhite, span, value, integer, integers, perhapsInteger}
 use Rattle.rules.specs.Act.{Act, Cmd, just, word, pair}
 use Rattle.rules.specs.Letters.{named}
@@ -34,7 +34,7 @@ use Rattle.finding.proofs.Exact.{hits-rise, hits-occur, occurs-hits}
 use Rattle.finding.proofs.Asked.{query-shape, shape-some}
 use Rattle.scanned.proofs.Fair.{commands-good}
 use Rattle.scanned.proofs.Names.{AllRows, RowIn, RowsOf, read-stands}
-use Rattle.theorems.specs.Statements.{Accepted, glyphsIn, rowsIn, itemsIn, pagesIn, endIn, glyphPaintIn, fillPaintIn, SameReading, ReadAgain, RoundTrip, FixedPoint, Exact, Exactness, Told, refusedAt, listed, told, cmdsOf, actsOf, OneSpelling, Answered, OneByte, Roomy, ByOutline, single, ByAnyCommand, nameIn, NamesIn, NamesOf, NamesStand, Alike, Likeness}
+use Rattle.theorems.specs.Statements.{Accepted, glyphsIn, rowsIn, itemsIn, pagesIn, endIn, glyphPaintIn, fillPaintIn, SameReading, ReadAgain, RoundTrip, FixedPoint, Exact, Exactness, Told, refusedAt, listed, told, cmdsOf, actsOf, OneSpelling, Answered, OneByte, Roomy, Limits, ByOutline, single, ByAnyCommand, nameIn, NamesIn, NamesOf, NamesStand, Alike, Likeness}
 
 -- ---- an accepted stream
 
@@ -491,4 +491,22 @@ roomy = record {
   reader = λ records entries s list rs xs e h a b. rw (h, enough (length rs) records a, enough (length xs) entries b);
   rewriter = λ room s list t h a. rw (h, enough (length t) room a);
   finder = λ records hits s list q rs is h a b. rw (h, enough (length rs) records a, enough (length is) hits b);
+}
+
+-- ---- limits
+
+or-true : (a b : Bool) → b ≡ true → (a || b) ≡ true
+or-true true b h = refl
+or-true false b h = h
+
+pub limits-hold : Limits
+unfolding read find
+limits-hold = record {
+  long-stream = λ s list h. rw (lt-ltb streamMost (length s) h);
+  long-list = λ s list h. rw (lt-ltb 65_536 (length list) h, or-true (isOver streamMost s) true refl);
+  long-query = λ s list q h. rw (lt-ltb 8_192 (length q) h, or-true (isOver 65_536 list) true refl, or-true (isOver streamMost s) true refl);
+  not-long = λ s list h k. rw (enough (length s) streamMost h, enough (length list) 65_536 k);
+  not-long-query = λ s list q h k l. rw (enough (length s) streamMost h, enough (length list) 65_536 k, enough (length q) 8_192 l);
+  text = λ t h. rw (le-leb (length t) 4_096 h);
+  long-text = λ t h. rw (lt-leb (length t) 4_096 h);
 }

@@ -7,14 +7,14 @@ use mathlib.Core.Logic.{_⊎_}
 use mathlib.Core.Path.{_≡_}
 use lib.ListN.{length, take, drop}
 use Rattle.rules.specs.Bytes.{isWhite, origin}
-use Rattle.rules.specs.Act.{Act, glyph, Cmd, just, word, pair}
+use Rattle.rules.specs.Act.{Act, glyph, raw, Cmd, just, word, pair}
 use Rattle.rules.specs.House.{played}
-use Rattle.rules.specs.Scan.{got, command, commands, bare}
+use Rattle.rules.specs.Scan.{got, limits, command, commands, bare}
 use Rattle.rules.specs.Widths.{Widths, sound, widthList}
 use Rattle.rules.specs.State.{Spot, corner, Paint, noPaint, Env, Glyph, Item, start}
 use Rattle.rules.specs.Record.{GlyphRow, ItemRow, Answer, refuse, answer}
 use Rattle.rules.specs.Find.{Wanted, Query, wellFormed, query, hitsFrom}
-use Rattle.rules.specs.Answers.{streamMost, isOver, read, readInto, isAccepted, Spelling, notSpelled, spelled, respell, respellInto, Found, notFound, found, keyOf, find, findInto}
+use Rattle.rules.specs.Answers.{streamMost, isOver, readWith, read, readInto, isAccepted, Spelling, notSpelled, spelled, respell, respellInto, Found, notFound, found, keyOf, findWith, find, findInto}
 use Rattle.reading.specs.Outline.{Mark, marksOf, outline}
 use Rattle.reading.specs.Kept.{unmotioned}
 use Rattle.finding.specs.Occurs.{QueryShape, OccursAt, Elem, Rising}
@@ -189,3 +189,15 @@ pub record Roomy : Type 0 where
   pub rewriter : (room : ℕ) (s list t : List ℕ) → respell s list ≡ spelled t → length t ≤ room → respellInto room s list ≡ spelled t
   pub finder : (records hits : ℕ) (s list q : List ℕ) (rs : List GlyphRow) (is : List ℕ) → find s list q ≡ found rs is → length rs ≤ records → length is ≤ hits
       → findInto records hits s list q ≡ found rs is
+
+-- ---- the limits that no sample reaches, as 01 has them: 16,777,216 bytes of a stream, 65,536 of a list, 8,192 of a query, 4,096 of a
+-- text; each number itself is allowed
+
+pub record Limits : Type 0 where
+  pub long-stream : (s list : List ℕ) → 16_777_216 < length s → read s list ≡ refuse 1 0
+  pub long-list : (s list : List ℕ) → 65_536 < length list → read s list ≡ refuse 1 0
+  pub long-query : (s list q : List ℕ) → 8_192 < length q → find s list q ≡ notFound 1 0
+  pub not-long : (s list : List ℕ) → length s ≤ 16_777_216 → length list ≤ 65_536 → read s list ≡ readWith s (widthList list)
+  pub not-long-query : (s list q : List ℕ) → length s ≤ 16_777_216 → length list ≤ 65_536 → length q ≤ 8_192 → find s list q ≡ findWith s q (widthList list)
+  pub text : (t : List ℕ) → length t ≤ 4_096 → limits (raw t) ≡ true ∷ []
+  pub long-text : (t : List ℕ) → 4_096 < length t → limits (raw t) ≡ false ∷ []
