@@ -20,13 +20,16 @@ use Rattle.rules.specs.Widths.{Widths}
 use Rattle.rules.specs.State.{Env, Glyph, Item, Step, refused, went, acts, perform, stopped}
 use Rattle.rules.specs.Record.{GlyphRow, ItemRow, Answer, refuse, answer, glyphRows, itemRows, afterRows, goOn, follow, recordOf, entryOf}
 use Rattle.command.specs.View.{cmdOf, commandAt}
-use Rattle.laws.proofs.Cases.{on}
+use Rattle.laws.proofs.Cases.{on, if-both}
 use Rattle.laws.proofs.Good.{GoodCmd}
 use Rattle.scanned.proofs.Fair.{GoodScan, command-good}
 use Rattle.scanned.proofs.Bounds.{Within, GotIn, command-in, textOf}
 use Rattle.scanned.proofs.Walk.{from, cons-at, comment-in, got-in, from-end, from-white, from-comment, from-bad, from-got}
 use Rattle.reader.specs.declared.Environment.{Environment}
 use Rattle.reader.specs.declared.Did.{Did}
+use Rattle.reader.specs.declared.Emitted.{Emitted}
+use Rattle.reader.specs.declared.Emitted.the-variants as E
+use Rattle.reader.specs.declared.Effect.the-variants as F
 use Rattle.reader.specs.declared.State.{State}
 use Rattle.reader.specs.declared.Turned.{Turned}
 use Rattle.reader.specs.Environment.{envOf}
@@ -47,10 +50,17 @@ module _ (n : ℕ) where
     pub left : st .left ≡ n - st .at
     pub clear : st .refusal ≡ 0
 
-  -- the rooms are large enough for what is still to come
+  -- the rooms are large enough for any stream of n bytes
+  abbrev pub Wide : State → Type 0
+  Wide st = (n ≤ st .rmax) × (n ≤ st .emax) × (st .records ≤ st .at) × (st .entries ≤ st .at)
+
+  -- or for what is still to come
+  abbrev pub Enough : Answer → State → Type 0
+  Enough (refuse k o) st = ⊥
+  Enough (answer rs xs d) st = (st .records + length rs ≤ st .rmax) × (st .entries + length xs ≤ st .emax)
+
   abbrev pub Room : Answer → State → Type 0
-  Room (refuse k o) st = (n ≤ st .rmax) × (n ≤ st .emax) × (st .records ≤ st .at) × (st .entries ≤ st .at)
-  Room (answer rs xs d) st = (st .records + length rs ≤ st .rmax) × (st .entries + length xs ≤ st .emax)
+  Room r st = Wide st ⊎ Enough r st
 
 -- refused, or at the end without `x s`
 abbrev pub Refused : ℕ → ℕ → State → Type 0
@@ -60,6 +70,7 @@ pub record Accepted (rs : List GlyphRow) (xs : List ItemRow) (d : Env) (p q : Pa
   pub clear : q .state .refusal ≡ 0
   pub mounts : List (List ℕ)
   pub environment : envOf (q .state .env) mounts ≡ d
+  pub stopped : eqb (q .state .env .phase) 4 ≡ true
   pub count : q .state .records ≡ p .state .records + length rs
   pub number : q .state .entries ≡ p .state .entries + length xs
   pub records : q .records ≡ written (p .state .fill) (p .records) (p .state .records) (map recordOf rs)
@@ -102,6 +113,7 @@ ended-after rs xs (answer rs′ xs′ d) p p′ q t h = record {
   clear = h .clear;
   mounts = h .mounts;
   environment = h .environment;
+  stopped = h .stopped;
   count = h .count ∙ ap (λ (k : ℕ). k + length rs′) (t .count) ∙ let z : length (rs ++ rs′) ≡ length rs + length rs′ = length-append rs rs′ in omega arith;
   number = h .number ∙ ap (λ (k : ℕ). k + length xs′) (t .number) ∙ let z : length (xs ++ xs′) ≡ length xs + length xs′ = length-append xs xs′ in omega arith;
   records =
@@ -116,15 +128,17 @@ ended-after rs xs (answer rs′ xs′ d) p p′ q t h = record {
 
 room-now : (n : ℕ) (rs : List GlyphRow) (xs : List ItemRow) (r : Answer) (st : State) → st .at + length rs ≤ n → st .at + length xs ≤ n → Room n (afterRows rs xs r) st
     → (st .records + length rs ≤ st .rmax) × (st .entries + length xs ≤ st .emax)
-room-now n rs xs (refuse k o) st a b h = (omega (arith, h .0, h .2), omega (arith, h .1, h .3))
-room-now n rs xs (answer rs′ xs′ d) st a b h = (omega (arith, h .0, length-append rs rs′), omega (arith, h .1, length-append xs xs′))
+room-now n rs xs r st a b (inl h) = (omega (arith, h .0, h .2), omega (arith, h .1, h .3))
+room-now n rs xs (refuse k o) st a b (inr h) = absurd h
+room-now n rs xs (answer rs′ xs′ d) st a b (inr h) = (omega (arith, h .0, length-append rs rs′), omega (arith, h .1, length-append xs xs′))
 
 room-next : (n : ℕ) (rs : List GlyphRow) (xs : List ItemRow) (r : Answer) (p p′ : Pass) → Stepped rs xs p p′ → p .state .at + length rs ≤ p′ .state .at → p .state .at + length xs ≤ p′ .state .at
     → Room n (afterRows rs xs r) (p .state) → Room n r (p′ .state)
-room-next n rs xs (refuse k o) p p′ t a b h =
-    (omega (arith, t .rmax, h .0), omega (arith, t .emax, h .1), omega (arith, t .count, h .2), omega (arith, t .number, h .3))
-room-next n rs xs (answer rs′ xs′ d) p p′ t a b h =
-    (omega (arith, t .rmax, t .count, h .0, length-append rs rs′), omega (arith, t .emax, t .number, h .1, length-append xs xs′))
+room-next n rs xs r p p′ t a b (inl h) =
+    inl (omega (arith, t .rmax, h .0), omega (arith, t .emax, h .1), omega (arith, t .count, h .2), omega (arith, t .number, h .3))
+room-next n rs xs (refuse k o) p p′ t a b (inr h) = absurd h
+room-next n rs xs (answer rs′ xs′ d) p p′ t a b (inr h) =
+    inr (omega (arith, t .rmax, t .count, h .0, length-append rs rs′), omega (arith, t .emax, t .number, h .1, length-append xs xs′))
 
 after-none : (r : Answer) → afterRows [] [] r ≡ r
 after-none (refuse k o) = refl
@@ -183,6 +197,7 @@ module _ (w : Widths) (find : List ℕ → ℕ) (s : List ℕ) (y : (i : ℕ) �
         clear = g .clear;
         mounts = ms;
         environment = refl;
+        stopped = e;
         count = sym (add-zero (p .state .records));
         number = sym (add-zero (p .state .entries));
         records = sym (written-none (p .state .fill) (p .records) (p .state .records));
@@ -326,3 +341,37 @@ module _ (w : Widths) (find : List ℕ → ℕ) (s : List ℕ) (y : (i : ℕ) �
       go : Passes f → (k : ℕ) → p .state .left ≡ k → Ended (readsFrom ms (p .state)) p (passFor (suc f) find s p)
       go more zero q = ends (suc f) ms p g q
       go more (suc k) q = turns-on f more ms p g v l (omega (arith, g .left)) r
+
+-- ---- a pass that judges leaves the rows as they were
+
+module _ (find : List ℕ → ℕ) (s : List ℕ) where
+  -- what a turn does where the rows are not filled
+  abbrev Idle : Turned → Type 0
+  Idle t = (t .effect ≡ F.Nothing) × (eqb (t .state .fill) 1 ≡ false)
+
+  emitted-idle : (n : ℕ) (st : State) (to : ℕ) (e : Environment) (x : Emitted) → eqb (st .fill) 1 ≡ false → Idle (emitted n st to e x)
+  emitted-idle n st to e E.Nothing h = (refl, h)
+  emitted-idle n st to e (E.Record r) h = if-both Idle (ltb (st .records) (st .rmax)) _ (halted st 13) (rw h (refl, refl)) (refl, h)
+  emitted-idle n st to e (E.Entry x) h = if-both Idle (ltb (st .entries) (st .emax)) _ (halted st 13) (rw h (refl, refl)) (refl, h)
+  emitted-idle n st to e (E.Word d) h = if-both Idle (ltb (st .rmax - st .records) (d .left)) (halted st 13) _ (refl, h) (rw h (refl, refl))
+
+  done-idle : (n : ℕ) (st : State) (to : ℕ) (d : Did) → eqb (st .fill) 1 ≡ false → Idle (doneOf n st to d)
+  done-idle n st to d h = if-both Idle (eqb (d .refusal) 0) (emitted n st to (d .env) (d .emitted)) (halted st (d .refusal)) (emitted-idle n st to (d .env) (d .emitted) h) (refl, h)
+
+  turn-idle : (ws : List ℕ) (st : State) → eqb (st .fill) 1 ≡ false → Idle (turnOf s ws st)
+  unfolding turnOf
+  turn-idle ws st h =
+      let line : Turned = skipped (length s) st (st .at + 1 + oneLine (drop (st .at + 1) s)) in
+      let rest : Turned = turnOn s ws st (commandAt s (st .at)) in
+      if-both Idle (isWhite (getD s (st .at) 0)) (skipped (length s) st (st .at + 1)) (if is "#" (getD s (st .at) 0) then line else rest) (refl, h)
+      (if-both Idle (is "#" (getD s (st .at) 0)) line rest (refl, h)
+      (done-idle (length s) st (nextOf (commandAt s (st .at))) (didAt s ws (st .unitwidth) (st .env) (st .at) (commandAt s (st .at))) h))
+
+  pub judging-keeps : (f : ℕ) (p : Pass) → eqb (p .state .fill) 1 ≡ false → (passFor f find s p .records ≡ p .records) × (passFor f find s p .entries ≡ p .entries)
+  unfolding passFor
+  judging-keeps zero p h = (refl, refl)
+  judging-keeps (suc f) p h =
+      let t : Idle (turnOf s (p .scratch) (p .state)) = turn-idle (p .scratch) (p .state) h in
+      let more : (passFor f find s (stepOf find s p) .records ≡ stepOf find s p .records) × (passFor f find s (stepOf find s p) .entries ≡ stepOf find s p .entries) = judging-keeps f (stepOf find s p) (t .1) in
+      on (eqb (p .state .left) 0) (λ e. rw e (refl, refl))
+      (λ e. rw e (more .0 ∙ ap (recordsAfter s (p .scratch) (p .records)) (t .0), more .1 ∙ ap (entriesAfter (p .entries)) (t .0)))
