@@ -152,7 +152,7 @@ fn lack(e: Environment) -> u32
 }
 
 // The integer that a number moved up stands for.
-fn shown(n: u32) -> i32
+pub fn shown(n: u32) -> i32
     requires { ⌜ n < 2 * origin ⌝ }
     ensures { λ r. ⌜ r ≡ shown n ⌝ }
 {

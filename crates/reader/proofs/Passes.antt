@@ -33,7 +33,7 @@ use Rattle.reader.specs.declared.Effect.the-variants as F
 use Rattle.reader.specs.declared.State.{State}
 use Rattle.reader.specs.declared.Turned.{Turned}
 use Rattle.reader.specs.Environment.{envOf}
-use Rattle.reader.specs.Turns.{didAt, nextOf, scratchAfter, halted, goneTo, emitted, doneOf, skipped, turnOn, turnOf, scratchOf}
+use Rattle.reader.specs.Turns.{didAt, nextOf, scratchAfter, halted, goneTo, fillsRecords, fillsEntries, emitted, doneOf, skipped, turnOn, turnOf, scratchOf}
 use Rattle.reader.specs.Passes.{Pass, recordsAfter, entriesAfter, stepOf, passFor}
 use Rattle.reader.proofs.Acts.{Agrees, recordsIn, entriesIn}
 use Rattle.reader.proofs.Commands.{mountsAfterCmd}
@@ -73,8 +73,8 @@ pub record Accepted (rs : List GlyphRow) (xs : List ItemRow) (d : Env) (p q : Pa
   pub stopped : eqb (q .state .env .phase) 4 ≡ true
   pub count : q .state .records ≡ p .state .records + length rs
   pub number : q .state .entries ≡ p .state .entries + length xs
-  pub records : q .records ≡ written (p .state .fill) (p .records) (p .state .records) (map recordOf rs)
-  pub entries : q .entries ≡ written (p .state .fill) (p .entries) (p .state .entries) (map entryOf xs)
+  pub records : q .records ≡ written (fillsRecords (p .state .fill)) (p .records) (p .state .records) (map recordOf rs)
+  pub entries : q .entries ≡ written (fillsEntries (p .state .fill)) (p .entries) (p .state .entries) (map entryOf xs)
 
 abbrev pub Ended : Answer → Pass → Pass → Type 0
 Ended (refuse k o) p q = Refused k o (q .state)
@@ -100,8 +100,8 @@ pub record Stepped (rs : List GlyphRow) (xs : List ItemRow) (p p′ : Pass) : Ty
   pub fill : p′ .state .fill ≡ p .state .fill
   pub rmax : p′ .state .rmax ≡ p .state .rmax
   pub emax : p′ .state .emax ≡ p .state .emax
-  pub records : p′ .records ≡ written (p .state .fill) (p .records) (p .state .records) (map recordOf rs)
-  pub entries : p′ .entries ≡ written (p .state .fill) (p .entries) (p .state .entries) (map entryOf xs)
+  pub records : p′ .records ≡ written (fillsRecords (p .state .fill)) (p .records) (p .state .records) (map recordOf rs)
+  pub entries : p′ .entries ≡ written (fillsEntries (p .state .fill)) (p .entries) (p .state .entries) (map entryOf xs)
 
 length-map {ℓ ℓ′} : {A : Type ℓ} {B : Type ℓ′} (f : A → B) (l : List A) → length (map f l) ≡ length l
 length-map f [] = refl
@@ -118,10 +118,10 @@ ended-after rs xs (answer rs′ xs′ d) p p′ q t h = record {
   number = h .number ∙ ap (λ (k : ℕ). k + length xs′) (t .number) ∙ let z : length (xs ++ xs′) ≡ length xs + length xs′ = length-append xs xs′ in omega arith;
   records =
       h .records
-      ∙ rw (t .fill, t .records, t .count, map-append recordOf rs rs′, ← length-map recordOf rs) (written-append (p .state .fill) (map recordOf rs) (map recordOf rs′) (p .records) (p .state .records));
+      ∙ rw (t .fill, t .records, t .count, map-append recordOf rs rs′, ← length-map recordOf rs) (written-append (fillsRecords (p .state .fill)) (map recordOf rs) (map recordOf rs′) (p .records) (p .state .records));
   entries =
       h .entries
-      ∙ rw (t .fill, t .entries, t .number, map-append entryOf xs xs′, ← length-map entryOf xs) (written-append (p .state .fill) (map entryOf xs) (map entryOf xs′) (p .entries) (p .state .entries));
+      ∙ rw (t .fill, t .entries, t .number, map-append entryOf xs xs′, ← length-map entryOf xs) (written-append (fillsEntries (p .state .fill)) (map entryOf xs) (map entryOf xs′) (p .entries) (p .state .entries));
 }
 
 -- ---- room
@@ -155,8 +155,8 @@ module _ (find : List ℕ → ℕ) (s : List ℕ) (p : Pass) where
     fill = rw t;
     rmax = rw t;
     emax = rw t;
-    records = rw t (sym (written-none (p .state .fill) (p .records) (p .state .records)));
-    entries = rw t (sym (written-none (p .state .fill) (p .entries) (p .state .entries)));
+    records = rw t (sym (written-none (fillsRecords (p .state .fill)) (p .records) (p .state .records)));
+    entries = rw t (sym (written-none (fillsEntries (p .state .fill)) (p .entries) (p .state .entries)));
   }
 
   -- a command that went
@@ -200,8 +200,8 @@ module _ (w : Widths) (find : List ℕ → ℕ) (s : List ℕ) (y : (i : ℕ) �
         stopped = e;
         count = sym (add-zero (p .state .records));
         number = sym (add-zero (p .state .entries));
-        records = sym (written-none (p .state .fill) (p .records) (p .state .records));
-        entries = sym (written-none (p .state .fill) (p .entries) (p .state .entries));
+        records = sym (written-none (fillsRecords (p .state .fill)) (p .records) (p .state .records));
+        entries = sym (written-none (fillsEntries (p .state .fill)) (p .entries) (p .state .entries));
       }))
       (λ e. rw e (inr (refl, g .clear, refl, e))))
 
@@ -347,18 +347,18 @@ module _ (w : Widths) (find : List ℕ → ℕ) (s : List ℕ) (y : (i : ℕ) �
 module _ (find : List ℕ → ℕ) (s : List ℕ) where
   -- what a turn does where the rows are not filled
   abbrev Idle : Turned → Type 0
-  Idle t = (t .effect ≡ F.Nothing) × (eqb (t .state .fill) 1 ≡ false)
+  Idle t = (t .effect ≡ F.Nothing) × (t .state .fill ≡ 0)
 
-  emitted-idle : (n : ℕ) (st : State) (to : ℕ) (e : Environment) (x : Emitted) → eqb (st .fill) 1 ≡ false → Idle (emitted n st to e x)
+  emitted-idle : (n : ℕ) (st : State) (to : ℕ) (e : Environment) (x : Emitted) → st .fill ≡ 0 → Idle (emitted n st to e x)
   emitted-idle n st to e E.Nothing h = (refl, h)
   emitted-idle n st to e (E.Record r) h = if-both Idle (ltb (st .records) (st .rmax)) _ (halted st 13) (rw h (refl, refl)) (refl, h)
   emitted-idle n st to e (E.Entry x) h = if-both Idle (ltb (st .entries) (st .emax)) _ (halted st 13) (rw h (refl, refl)) (refl, h)
   emitted-idle n st to e (E.Word d) h = if-both Idle (ltb (st .rmax - st .records) (d .left)) (halted st 13) _ (refl, h) (rw h (refl, refl))
 
-  done-idle : (n : ℕ) (st : State) (to : ℕ) (d : Did) → eqb (st .fill) 1 ≡ false → Idle (doneOf n st to d)
+  done-idle : (n : ℕ) (st : State) (to : ℕ) (d : Did) → st .fill ≡ 0 → Idle (doneOf n st to d)
   done-idle n st to d h = if-both Idle (eqb (d .refusal) 0) (emitted n st to (d .env) (d .emitted)) (halted st (d .refusal)) (emitted-idle n st to (d .env) (d .emitted) h) (refl, h)
 
-  turn-idle : (ws : List ℕ) (st : State) → eqb (st .fill) 1 ≡ false → Idle (turnOf s ws st)
+  turn-idle : (ws : List ℕ) (st : State) → st .fill ≡ 0 → Idle (turnOf s ws st)
   unfolding turnOf
   turn-idle ws st h =
       let line : Turned = skipped (length s) st (st .at + 1 + oneLine (drop (st .at + 1) s)) in
@@ -367,7 +367,7 @@ module _ (find : List ℕ → ℕ) (s : List ℕ) where
       (if-both Idle (is "#" (getD s (st .at) 0)) line rest (refl, h)
       (done-idle (length s) st (nextOf (commandAt s (st .at))) (didAt s ws (st .unitwidth) (st .env) (st .at) (commandAt s (st .at))) h))
 
-  pub judging-keeps : (f : ℕ) (p : Pass) → eqb (p .state .fill) 1 ≡ false → (passFor f find s p .records ≡ p .records) × (passFor f find s p .entries ≡ p .entries)
+  pub judging-keeps : (f : ℕ) (p : Pass) → p .state .fill ≡ 0 → (passFor f find s p .records ≡ p .records) × (passFor f find s p .entries ≡ p .entries)
   unfolding passFor
   judging-keeps zero p h = (refl, refl)
   judging-keeps (suc f) p h =

@@ -23,14 +23,14 @@ use Rattle.reader.specs.declared.Effect.{Effect}
 use Rattle.reader.specs.declared.Effect.the-variants as F
 use Rattle.reader.specs.declared.Turned.{Turned}
 use Rattle.reader.specs.Words.{wordNext, wordRecord, wordRecords}
-use Rattle.reader.specs.Turns.{goneTo, filling, emitted}
+use Rattle.reader.specs.Turns.{goneTo, fillsRecords, fillsEntries, filling, emitted}
 use Rattle.reader.specs.Passes.{wordFill, recordsAfter, entriesAfter}
 use Rattle.reader.proofs.Acts.{recordsIn, entriesIn}
 
 -- ---- what is written from k on, where the rows are filled
 
-abbrev pub written {ℓ} : {A : Type ℓ} → ℕ → List A → ℕ → List A → List A
-written fill old k new = if eqb fill 1 then sets old k new else old
+abbrev pub written {ℓ} : {A : Type ℓ} → Bool → List A → ℕ → List A → List A
+written fill old k new = if fill then sets old k new else old
 
 sets-append {ℓ} : {A : Type ℓ} (xs ys old : List A) (k : ℕ) → sets (sets old k xs) (k + length xs) ys ≡ sets old k (xs ++ ys)
 sets-append [] ys old k = ap (λ (i : ℕ). sets old i ys) (add-zero k)
@@ -38,11 +38,11 @@ sets-append (x ∷ xs) ys old k =
     let e : k + suc (length xs) ≡ suc k + length xs = omega arith in
     ap (λ (i : ℕ). sets (sets (set old k x) (suc k) xs) i ys) e ∙ sets-append xs ys (set old k x) (suc k)
 
-pub written-append {ℓ} : {A : Type ℓ} (fill : ℕ) (xs ys old : List A) (k : ℕ) → written fill (written fill old k xs) (k + length xs) ys ≡ written fill old k (xs ++ ys)
-written-append fill xs ys old k = on (eqb fill 1) (λ e. rw e (sets-append xs ys old k)) (λ e. rw e)
+pub written-append {ℓ} : {A : Type ℓ} (fill : Bool) (xs ys old : List A) (k : ℕ) → written fill (written fill old k xs) (k + length xs) ys ≡ written fill old k (xs ++ ys)
+written-append fill xs ys old k = on fill (λ e. rw e (sets-append xs ys old k)) (λ e. rw e)
 
-pub written-none {ℓ} : {A : Type ℓ} (fill : ℕ) (old : List A) (k : ℕ) → written fill old k [] ≡ old
-written-none fill old k = on (eqb fill 1) (λ e. rw e) (λ e. rw e)
+pub written-none {ℓ} : {A : Type ℓ} (fill : Bool) (old : List A) (k : ℕ) → written fill old k [] ≡ old
+written-none fill old k = on fill (λ e. rw e) (λ e. rw e)
 
 -- ---- a word
 
@@ -60,32 +60,32 @@ word-length (suc n) s ws d = ap suc (word-length n s ws (wordNext s ws d))
 
 pub record Turns (s ws : List ℕ) (n : ℕ) (st : State) (next : ℕ) (e : Environment) (x : Emitted) (t : Turned) : Type 0 where
   pub state : t .state ≡ goneTo n st next (st .records + length (recordsIn s ws x)) (st .entries + length (entriesIn x)) e
-  pub records : (old : List Record) → recordsAfter s ws old (t .effect) ≡ written (st .fill) old (st .records) (recordsIn s ws x)
-  pub entries : (old : List Entry) → entriesAfter old (t .effect) ≡ written (st .fill) old (st .entries) (entriesIn x)
+  pub records : (old : List Record) → recordsAfter s ws old (t .effect) ≡ written (fillsRecords (st .fill)) old (st .records) (recordsIn s ws x)
+  pub entries : (old : List Entry) → entriesAfter old (t .effect) ≡ written (fillsEntries (st .fill)) old (st .entries) (entriesIn x)
 
 module _ (s ws : List ℕ) (n : ℕ) (st : State) (next : ℕ) (e : Environment) where
   pub emitted-turns : (x : Emitted) → st .records + length (recordsIn s ws x) ≤ st .rmax → st .entries + length (entriesIn x) ≤ st .emax → Turns s ws n st next e x (emitted n st next e x)
   emitted-turns E.Nothing r q = record {
     state = rw (add-zero (st .records), add-zero (st .entries));
-    records = λ old. sym (written-none (st .fill) old (st .records));
-    entries = λ old. sym (written-none (st .fill) old (st .entries));
+    records = λ old. sym (written-none (fillsRecords (st .fill)) old (st .records));
+    entries = λ old. sym (written-none (fillsEntries (st .fill)) old (st .entries));
   }
   emitted-turns (E.Record y) r q =
       rw (lt-ltb (st .records) (st .rmax) (omega arith)) (record {
         state = rw (add-zero (st .entries));
-        records = λ old. on (eqb (st .fill) 1) (λ k. rw k) (λ k. rw k);
-        entries = λ old. on (eqb (st .fill) 1) (λ k. rw k) (λ k. rw k);
+        records = λ old. on (fillsRecords (st .fill)) (λ k. rw k) (λ k. rw k);
+        entries = λ old. on (fillsRecords (st .fill)) (λ k. rw k (sym (written-none (fillsEntries (st .fill)) old (st .entries)))) (λ k. rw k (sym (written-none (fillsEntries (st .fill)) old (st .entries))));
       })
   emitted-turns (E.Entry y) r q =
       rw (lt-ltb (st .entries) (st .emax) (omega arith)) (record {
         state = rw (add-zero (st .records));
-        records = λ old. on (eqb (st .fill) 1) (λ k. rw k) (λ k. rw k);
-        entries = λ old. on (eqb (st .fill) 1) (λ k. rw k) (λ k. rw k);
+        records = λ old. on (fillsEntries (st .fill)) (λ k. rw k (sym (written-none (fillsRecords (st .fill)) old (st .records)))) (λ k. rw k (sym (written-none (fillsRecords (st .fill)) old (st .records))));
+        entries = λ old. on (fillsEntries (st .fill)) (λ k. rw k) (λ k. rw k);
       })
   emitted-turns (E.Word d) r q =
       let l : length (wordRecords (d .left) s ws d) ≡ d .left = word-length (d .left) s ws d in
       rw (le-ltb (st .rmax - st .records) (d .left) (omega arith)) (record {
         state = rw (l, add-zero (st .entries));
-        records = λ old. on (eqb (st .fill) 1) (λ k. rw k (word-sets (d .left) s ws (st .records) d old)) (λ k. rw k);
-        entries = λ old. on (eqb (st .fill) 1) (λ k. rw k) (λ k. rw k);
+        records = λ old. on (fillsRecords (st .fill)) (λ k. rw k (word-sets (d .left) s ws (st .records) d old)) (λ k. rw k);
+        entries = λ old. on (fillsRecords (st .fill)) (λ k. rw k (sym (written-none (fillsEntries (st .fill)) old (st .entries)))) (λ k. rw k (sym (written-none (fillsEntries (st .fill)) old (st .entries))));
       })

@@ -54,7 +54,7 @@ pub struct Did {
 }
 
 // Where a pass stands. `left` is how many bytes there are from `at` on, 0 once the pass has stopped; the rooms are those of the lent
-// rows; `refusal` is 0 for none, `fill` 1 where the rows are filled.
+// rows; `fonts` is how many fonts the width list has; `refusal` is 0 for none; `fill` is 0 where the pass judges, 1 where it fills both rows, 2 where it fills the records alone.
 #[repr(C)]
 pub struct State {
     pub left: usize,
@@ -63,6 +63,7 @@ pub struct State {
     pub rmax: usize,
     pub entries: usize,
     pub emax: usize,
+    pub fonts: usize,
     pub refusal: u32,
     pub fill: u32,
     pub unitwidth: u32,

@@ -1,5 +1,5 @@
 -- The limits of what a sound width list says, for whoever computes with it. Assumes nothing.
-use Prim.Native.Nat.{ℕ, _≤_}
+use Prim.Native.Nat.{ℕ, _+_, _≤_}
 use mathlib.Core.Path.{_≡_, refl, subst}
 use mathlib.Core.Bool.{_&&_}
 use mathlib.Core.List.{List, [], _∷_}
@@ -10,6 +10,7 @@ use lib.Dec.{eqb, leb, ltb}
 use lib.ListN.{length}
 use Rattle.rules.specs.Bytes.{bytes, same}
 use Rattle.rules.specs.Widths.{Line, Width, Font, Widths, Due, unitDue, blockDue, widthDue, LineRead, wrongLine, rightLine, behind, numbered, isString, isNew, mayFollow, addWidth, unitLine, byteLine, fontLine, widthLine, blockLine, lineSays, lineRead, lineOn, listEnds, linesFrom, linesSay, WidthList, unsound, sound, widthList, widthIn, widthOf}
+use Rattle.widths.specs.Table.{fontAt, entryFor}
 use Rattle.laws.proofs.Cases.{on, if-both, if-on, and-left, and-right}
 
 abbrev SmallIn : List Width → Type 0
@@ -115,6 +116,15 @@ small-of n b k (f ∷ fs) s e =
     (λ q. small-in b k (f .widths) (s .0) (rw q at e))
     (λ q. small-of n b k fs (s .1) (rw q at e))
 
+small-at : (i : ℕ) (fs : List Font) → SmallOf fs → SmallIn (fontAt i fs .widths)
+unfolding fontAt
+small-at i [] s = tt
+small-at i (f ∷ fs) s = if-both (λ (g : Font). SmallIn (g .widths)) (eqb (length fs) i) f (fontAt i fs) (s .0) (small-at i fs (s .1))
+
+entry-least : (b : ℕ) (ws : List Width) (o : Option ℕ) → SmallIn ws → widthIn b ws ≡ o → entryFor o ≤ 100001
+entry-least b ws none s e = omega arith
+entry-least b ws (some k) s e = omega (arith, small-in b k ws s e)
+
 module _ (t : List ℕ) (w : Widths) (e : widthList t ≡ sound w) where
   sane : Sane w
   sane = subst SaneList e (list-sane t)
@@ -127,3 +137,7 @@ module _ (t : List ℕ) (w : Widths) (e : widthList t ≡ sound w) where
 
   pub sound-small : (n : List ℕ) (b k : ℕ) → widthOf n b (w .fonts) ≡ some k → k ≤ 100000
   sound-small n b k q = small-of n b k (w .fonts) (sane .3) q
+
+  -- what the table holds for a byte of a font
+  pub sound-entry : (i b : ℕ) → entryFor (widthIn b (fontAt i (w .fonts) .widths)) ≤ 100001
+  sound-entry i b = entry-least b (fontAt i (w .fonts) .widths) (widthIn b (fontAt i (w .fonts) .widths)) (small-at i (w .fonts) (sane .3)) refl

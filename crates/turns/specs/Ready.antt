@@ -1,0 +1,30 @@
+-- What a turn asks, and where the names of the width list stand in the scratch row. Assumes nothing.
+use Prim.Native.Nat.{ℕ, _+_, _*_, _<_, _≤_}
+use mathlib.Core.List.{List}
+use mathlib.Core.Path.{_≡_}
+use lib.ListN.{length, take, drop}
+use Rattle.widths.specs.Slots.{slotIn}
+use Rattle.reader.specs.declared.State.{State}
+use Rattle.reader.specs.Fits.{EnvFits}
+use Rattle.effects.specs.Bounds.{Small}
+
+-- The scratch row has 8768 places: the mounts, the 32 blocks of widths, an empty block for fonts that the list has not, from 8704
+-- on the places of the 32 names in the list, and from 8736 on their lengths.
+abbrev pub findIn : List ℕ → ℕ → List ℕ → List ℕ → ℕ
+findIn list fonts ws n = slotIn list (take 32 (drop 8704 ws)) (take 32 (drop 8736 ws)) fonts n
+
+pub record Scratch (ws : List ℕ) : Type 0 where
+  pub size : length ws ≡ 8768
+  pub small : Small ws
+
+-- a pass that still goes on in a stream of n bytes
+pub record Ready (n : ℕ) (st : State) : Type 0 where
+  pub some : 0 < st .left
+  pub ends : st .at + st .left ≡ n
+  pub most : n ≤ 16777216
+  pub fits : EnvFits (st .at) (st .env)
+  pub unit-some : 1 ≤ st .unitwidth
+  pub unit-most : st .unitwidth ≤ 100000
+  pub few : st .fonts ≤ 32
+  pub records : st .records ≤ st .rmax
+  pub entries : st .entries ≤ st .emax
