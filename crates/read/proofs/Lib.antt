@@ -1,0 +1,2 @@
+pub mod Scratched
+pub mod Twice

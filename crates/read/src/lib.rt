@@ -1,0 +1,27 @@
+// The reader (document 01, "Reading"): a stream with its width list, and two lent rows. One pass judges the stream, and where nothing
+// is against it a second one fills the rows.
+use rules::Entry;
+use rules::Reading;
+use rules::Record;
+ghost use mathlib.Core.Path.{_≡_};
+ghost use lib.ListN.{length};
+ghost use Rattle.rules.specs.Answers.{readInto, readingOf, recordsOver, entriesOver};
+ghost use Rattle.turns.specs.Ready.{Scratch};
+
+fn room() -> [u32; 8768]
+    ensures { λ r. ⌜ Scratch r ⌝ }
+{
+    [0u32; 8768]
+}
+
+// The numbers of records, entries and pages, the end position and both colours; or a refusal, which leaves both rows as they were.
+pub fn read(s: &[u8], list: &[u8], records: &mut [Record], entries: &mut [Entry]) -> Reading
+    ensures { λ r. ⌜ (r ≡ readingOf (readInto (length (now (records .entry))) (length (now (entries .entry))) (now (s .entry)) (now (list .entry)))) × (now (records .exit) ≡ recordsOver (now (records .entry)) (readInto (length (now (records .entry))) (length (now (entries .entry))) (now (s .entry)) (now (list .entry)))) × (now (entries .exit) ≡ entriesOver (now (entries .entry)) (readInto (length (now (records .entry))) (length (now (entries .entry))) (now (s .entry)) (now (list .entry)))) ⌝ }
+{
+    let mut ws = room();
+    let a = plan::start(&mut ws, s, list);
+    let b = passes::pass(records, entries, &mut ws, s, list, a);
+    let c = plan::again(&mut ws, b, s.len(), records.len(), entries.len(), 1);
+    let d = passes::pass(records, entries, &mut ws, s, list, c);
+    plan::answer(d)
+}
