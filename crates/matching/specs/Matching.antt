@@ -20,8 +20,8 @@ keyIn s k = record { name = partIn s (k .place) (k .len); gap = k .gap; ordinal 
 abbrev pub keyOf : Record → Key
 keyOf r = record { ordinal = r .ordinal; gap = r .gap; place = r .place; len = r .len }
 
--- the row of the query has 192 places: the places of its names, from 64 on their lengths, from 128 on what each glyph asks of the
--- gap mark
+-- the row of the query has 193 places: the places of its names, from 64 on their lengths, from 128 on what each glyph asks of the
+-- gap mark, and at 192 how many glyphs there are
 abbrev pub gapAt : ℕ → Gap
 gapAt zero = anyGap
 gapAt (suc zero) = noGap
@@ -32,7 +32,7 @@ wantedIn q rows j = record { gap = gapAt (getD rows (128 + j) 0); name = partIn 
 
 -- the row holds the glyphs of the query
 pub record RowOf (q : List ℕ) (qs : List Wanted) (rows : List ℕ) : Type 0 where
-  pub size : length rows ≡ 192
+  pub size : length rows ≡ 193
   pub each : (j : ℕ) → j < length qs → wantedIn q rows j ≡ wantedAt qs j
 
 abbrev pub reasonOf : Option RulesReason → Reason

@@ -63,7 +63,7 @@ fn wide(x: u32) -> usize
 
 // The test of one glyph of the query, the first glyph's record being on a page: page, name, gap.
 pub fn test(s: &[u8], q: &[u8], rows: &[u32], j: usize, page: u32, k: Key) -> Reason
-    requires { ⌜ (length (now rows) ≡ 192) × (j < 64) ⌝ }
+    requires { ⌜ (length (now rows) ≡ 193) × (j < 64) ⌝ }
     ensures { λ r. ⌜ r ≡ reasonOf (glyphTest page (wantedIn (now (q .entry)) (now (rows .entry)) j) (keyIn (now (s .entry)) k)) ⌝ }
 {
     if k.ordinal != page {

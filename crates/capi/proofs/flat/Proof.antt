@@ -1,0 +1,20 @@
+use Rattle.capi.proofs.Flattened.{flattening}
+use Rattle.capi.proofs.flat.Statement.{statement}
+use Rattle.capi.proofs.flat.Tie as tie
+use Rattle.capi.proofs.flat.Reads as reads
+use Rattle.capi.proofs.flat.Lts as lts
+
+enum-known-answer : tie.Need-enum-known-answer
+enum-known-answer c = search flattening
+
+enum-known-answer-2 : tie.Need-enum-known-answer-2
+enum-known-answer-2 c = search flattening
+
+returns : tie.Need-returns
+returns c = search flattening
+
+returns-2 : tie.Need-returns-2
+returns-2 c = search flattening
+
+pub flat-spec : {M : Type 1} → statement M
+flat-spec = tie.close (tie.spec enum-known-answer enum-known-answer-2 returns returns-2)

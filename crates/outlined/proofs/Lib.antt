@@ -1,0 +1,4 @@
+pub mod Moves
+pub mod Keys
+pub mod Outlines
+pub mod Counting
