@@ -9,7 +9,7 @@ ghost use lib.ListN.{length};
 ghost use Rattle.rules.specs.Answers.{readInto, readingOf, recordsOver, entriesOver};
 ghost use Rattle.capi.specs.Flat.{flatOf};
 
-// The reader's answer. `refusal` is 0 where the stream is accepted, else its number, with the offset; 88 bytes.
+// The reader's answer. `refusal` is 0 where the stream is accepted, else its number, with the offset; 80 bytes.
 #[repr(C)]
 pub struct ReadResult {
     pub offset: usize,

@@ -1,0 +1,144 @@
+/*
+ * Mrkvandel: the proved reader of troff intermediate output, as C functions.
+ *
+ * The library is target/staticlib/libcapi.a, for x86-64; `rt staticlib capi` proves and writes it. The source of these
+ * declarations is crates/capi/src/lib.rt and, for records, entries and colours, crates/rules/src/lib.rt; routines/ tests that
+ * this header agrees. What the answers mean is said in full by the definitions in crates/rules/specs.
+ *
+ * Of every function here:
+ *   - An input or a row crosses as a pointer and the number of its items (of bytes, records or entries).
+ *   - Each pointer must be valid for that many items and aligned for them: to read for an input, to read and write for a row.
+ *     None may be null, not even where the number is 0.
+ *   - No row may overlap the other row or an input. The inputs may overlap each other. They are not changed.
+ *   - Nothing else is asked of a caller: any bytes and any lengths will do.
+ *   - Nothing is allocated and nothing is kept between calls.
+ *
+ * For C11 and C++11, and later.
+ */
+#ifndef MRKVANDEL_H
+#define MRKVANDEL_H
+
+#include <stddef.h>
+#include <stdint.h>
+
+#ifdef __cplusplus
+#define MRKVANDEL_ASSERT(holds, message) static_assert(holds, message)
+extern "C" {
+#else
+#define MRKVANDEL_ASSERT(holds, message) _Static_assert(holds, message)
+#endif
+
+/* The most bytes of a stream and of a width list; more is refused as 1. */
+#define MRKVANDEL_STREAM_LIMIT 16777216
+#define MRKVANDEL_LIST_LIMIT 65536
+
+/*
+ * Refusal numbers. The offset of a refusal is that of the first byte of the command at fault, counted from 0 in the stream,
+ * unless it is said otherwise. A refusal with a smaller number comes first at one command; in all, 1 comes first, then 2, then 12,
+ * then the first command at fault, and 13 last, when nothing else is against the inputs.
+ */
+enum {
+    /* no refusal */
+    MRKVANDEL_ACCEPTED = 0,
+    /* the stream is over 16,777,216 bytes, the width list over 65,536 or the query over 8,192; offset 0 */
+    MRKVANDEL_TOO_LONG = 1,
+    /* the width list is wrong; offset in the list: the start of its first wrong line (one without a newline is wrong), or its
+       length where a line is missing at the end */
+    MRKVANDEL_WIDTH_LIST = 2,
+    /* unknown command, `D`, `DF`, `m` or `x` letter, or none */
+    MRKVANDEL_UNKNOWN = 3,
+    /* an argument is missing or malformed; none or an odd number of them for `Dp`, `DP`, `D~` */
+    MRKVANDEL_MALFORMED = 4,
+    /* other bytes stand before the line break of `D` or `x` */
+    MRKVANDEL_SURPLUS = 5,
+    /* a number, count, name or text is outside its limit */
+    MRKVANDEL_OUTSIDE_LIMIT = 6,
+    /* the prologue is out of order, or a prologue command stands later; a motion, glyph, `N` or any `D` before the first `p`; a byte
+       of anything after `x s` (offset: that byte) */
+    MRKVANDEL_OUT_OF_ORDER = 7,
+    /* `f` to an unmounted position; a glyph or `N` without current font and size */
+    MRKVANDEL_NO_FONT = 8,
+    /* no width for a byte of `t` or `u` */
+    MRKVANDEL_NO_WIDTH = 9,
+    /* h or v beyond 99,999,999 either way after a command, or after any glyph of a word */
+    MRKVANDEL_OUT_OF_REACH = 10,
+    /* no `x s`; offset: the length of the stream */
+    MRKVANDEL_NO_STOP = 11,
+    /* the query is wrong: no answer of the reader */
+    MRKVANDEL_QUERY = 12,
+    /* a row is too small, or the spelling too long; offset 0 */
+    MRKVANDEL_NO_ROOM = 13
+};
+
+/* A glyph record: 40 bytes. */
+typedef struct mrkvandel_record {
+    uint32_t ordinal; /* which page it is on, counted: 1 for the first `p` */
+    int32_t page;     /* the number of that page, as its `p` gives it */
+    int32_t h;        /* position before any advance, -99,999,999 to 99,999,999: to the right */
+    int32_t v;        /* and downwards */
+    uint32_t font;    /* current font position, 0 to 255 */
+    uint32_t size;    /* current size, 1 to 99,999,999 */
+    uint32_t place;   /* where the glyph's name begins in the stream, counted from 0; 0 for a glyph set by `N` */
+    uint32_t len;     /* how many bytes its name has, at most 64; 0 for a glyph set by `N` */
+    uint32_t index;   /* the number of `N`; 0 for any other glyph */
+    uint32_t gap;     /* gap mark: 1 on the first record of a page, and where a `w`, `n` or negative `N` stands between this
+                         record and the one before it; else 0 */
+} mrkvandel_record;
+
+/* An entry for a `D` or `x` command: 32 bytes. */
+typedef struct mrkvandel_entry {
+    uint32_t command; /* the byte `D` or `x` */
+    uint32_t letter;  /* the byte behind it: the letter of `D`, the first byte of the word of `x` */
+    uint32_t scheme;  /* of `DF` its third letter, one of `c`, `d`, `g`, `k`, `r`; else 0 */
+    uint32_t ordinal; /* which page it is on, counted: 1 for the first `p`, 0 before it */
+    uint32_t place;   /* where the command begins in the stream, counted from 0 */
+    uint32_t len;     /* how many bytes it has, to its last argument byte; without an argument to the end of its letters or word;
+                         of `x X` to the end of its last line, the newline aside */
+    int32_t h;        /* of `D` and `x X` the position before it; of any other `x` 0 */
+    int32_t v;
+} mrkvandel_entry;
+
+/* A colour: 20 bytes. */
+typedef struct mrkvandel_colour {
+    uint32_t scheme;   /* the letter of its scheme, a byte: `c`, `d` (default), `g`, `k` or `r` */
+    uint32_t parts[4]; /* its components in their order, each 0 to 65,536; unused ones are 0 */
+} mrkvandel_colour;
+
+/* The reader's answer: 80 bytes. */
+typedef struct mrkvandel_read_result {
+    size_t offset;           /* of a refusal, see above; 0 where the stream is accepted */
+    size_t records;          /* how many records were written; 0 in a refusal */
+    size_t entries;          /* how many entries were written; 0 in a refusal */
+    uint32_t refusal;        /* 0 where the stream is accepted, else the number of the refusal: 1 to 11 or 13 */
+    uint32_t pages;          /* how many `p` the stream has; 0 in a refusal */
+    int32_t h;               /* the position behind the last command; 0 in a refusal */
+    int32_t v;
+    mrkvandel_colour glyph;  /* the glyph colour behind the last command; the default scheme in a refusal */
+    mrkvandel_colour fill;   /* the fill colour, likewise */
+} mrkvandel_read_result;
+
+MRKVANDEL_ASSERT(sizeof(size_t) == 8, "the library is for x86-64");
+MRKVANDEL_ASSERT(sizeof(mrkvandel_record) == 40, "a record has 40 bytes");
+MRKVANDEL_ASSERT(sizeof(mrkvandel_entry) == 32, "an entry has 32 bytes");
+MRKVANDEL_ASSERT(sizeof(mrkvandel_colour) == 20, "a colour has 20 bytes");
+MRKVANDEL_ASSERT(sizeof(mrkvandel_read_result) == 80, "the reader's answer has 80 bytes");
+
+/*
+ * Reads a stream with its width list. `records` gets one record for each glyph, `entries` one entry for each `D` or `x` command,
+ * both in the order of the stream.
+ *
+ * Accepted (refusal 0): the first `records` records and the first `entries` entries of the rows, as the answer counts them, are
+ * written; what lies behind them in the rows is unchanged. A row that is exactly full is large enough.
+ * Refused: both rows are unchanged, every byte of them.
+ *
+ * A stream of n bytes needs at most n records and n / 2 entries.
+ */
+mrkvandel_read_result mrkvandel_read(const uint8_t *stream, size_t stream_len, const uint8_t *widths, size_t widths_len,
+                                     mrkvandel_record *records, size_t records_len, mrkvandel_entry *entries, size_t entries_len);
+
+#ifdef __cplusplus
+}
+#endif
+#undef MRKVANDEL_ASSERT
+
+#endif

@@ -1,0 +1,13 @@
+//! The proved routines, as the C functions of `crates/capi`, against the second program. `proved`
+//! calls the static library, `expected` asks the second program, and `agree` compares the answers
+//! and all memory that was lent.
+
+pub mod agree;
+pub mod expected;
+pub mod proved;
+pub mod rows;
+pub mod shape;
+pub mod text;
+pub mod types;
+
+pub use types::{Colour, Entry, ReadResult, Record};

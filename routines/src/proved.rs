@@ -1,0 +1,82 @@
+//! The proved code, through the static library of `crates/capi`.
+
+use crate::text::glyphs_text;
+use crate::{Entry, ReadResult, Record};
+use second::refusal::{Refusal, Rooms};
+use second::vectors::{Check, Program, Routine};
+
+// A slice crosses as its pointer and its length. The functions have no `requires`: every slice will
+// do. Rust lets no `&mut` slice overlap another one.
+extern "C" {
+    fn mrkvandel_read(
+        stream: *const u8,
+        stream_len: usize,
+        widths: *const u8,
+        widths_len: usize,
+        records: *mut Record,
+        records_len: usize,
+        entries: *mut Entry,
+        entries_len: usize,
+    ) -> ReadResult;
+}
+
+/// Reads a stream with its width list into the rows.
+pub fn read(stream: &[u8], widths: &[u8], records: &mut [Record], entries: &mut [Entry]) -> ReadResult {
+    // SAFETY: pointers and lengths are those of slices; the inputs are only read; every content of a
+    // row is a record or an entry, as all their fields are plain numbers
+    unsafe {
+        mrkvandel_read(
+            stream.as_ptr(),
+            stream.len(),
+            widths.as_ptr(),
+            widths.len(),
+            records.as_mut_ptr(),
+            records.len(),
+            entries.as_mut_ptr(),
+            entries.len(),
+        )
+    }
+}
+
+/// The routines that the library has.
+pub const ROUTINES: [Routine; 1] = [Routine::Reader];
+
+/// The routine that a check of a vector is about.
+pub fn routine_of(check: &Check) -> Routine {
+    match check {
+        Check::Answer(routine, _) | Check::Text(routine, _) => *routine,
+        Check::Has(_) => Routine::Reader,
+    }
+}
+
+/// The library as a program that answers texts, for the vectors. Checks of a routine that is not
+/// among `ROUTINES` are to be left out.
+pub struct Proved;
+
+/// Rows of at most so many stand for unlimited room in a vector: a stream of n bytes needs at most n
+/// records and n / 2 entries, and no vector needs a million.
+const MOST: usize = 1_000_000;
+
+impl Program for Proved {
+    fn glyphs(&self, stream: &[u8], list: &[u8], rooms: Rooms) -> Result<Vec<u8>, Refusal> {
+        let mut records = vec![Record::default(); rooms.records.min(stream.len()).min(MOST)];
+        let mut entries = vec![Entry::default(); rooms.entries.min(stream.len() / 2).min(MOST)];
+        let answer = read(stream, list, &mut records, &mut entries);
+        match answer.refusal {
+            0 => Ok(glyphs_text(stream, &answer, &records, &entries)),
+            number => Err(refusal(number, answer.offset)),
+        }
+    }
+
+    fn respell(&self, _: &[u8], _: &[u8], _: Rooms) -> Result<Vec<u8>, Refusal> {
+        unimplemented!("the library has no rewriter yet")
+    }
+
+    fn find(&self, _: &[u8], _: &[u8], _: &[u8], _: Rooms) -> Result<Vec<u8>, Refusal> {
+        unimplemented!("the library has no finder yet")
+    }
+}
+
+fn refusal(number: u32, offset: usize) -> Refusal {
+    Refusal { number: u8::try_from(number).expect("refusal numbers are small"), offset }
+}

@@ -1,0 +1,86 @@
+//! Rows to lend: filled with numbers without order, between guards, and looked at afterwards.
+
+use crate::{Entry, Record};
+use second::generate::random::Random;
+use std::fmt::Debug;
+
+/// How many items stand before a lent row, and how many behind it.
+pub const GUARD: usize = 4;
+
+/// What a row is made of.
+pub trait Item: Copy + Debug + PartialEq {
+    /// An item of numbers without order, which no routine would write.
+    fn without_order(random: &mut Random) -> Self;
+}
+
+impl Item for Record {
+    fn without_order(random: &mut Random) -> Record {
+        let mut number = || random.number() as u32;
+        Record {
+            ordinal: number(),
+            page: number() as i32,
+            h: number() as i32,
+            v: number() as i32,
+            font: number(),
+            size: number(),
+            place: number(),
+            len: number(),
+            index: number(),
+            gap: number(),
+        }
+    }
+}
+
+impl Item for Entry {
+    fn without_order(random: &mut Random) -> Entry {
+        let mut number = || random.number() as u32;
+        Entry {
+            command: number(),
+            letter: number(),
+            scheme: number(),
+            ordinal: number(),
+            place: number(),
+            len: number(),
+            h: number() as i32,
+            v: number() as i32,
+        }
+    }
+}
+
+/// A row to be lent, with its guards, and what all of it held before.
+pub struct Lent<T> {
+    before: Vec<T>,
+    /// guard, row, guard
+    pub whole: Vec<T>,
+}
+
+impl<T: Item> Lent<T> {
+    pub fn new(room: usize, random: &mut Random) -> Lent<T> {
+        let before: Vec<T> = (0..room + 2 * GUARD).map(|_| T::without_order(random)).collect();
+        Lent { whole: before.clone(), before }
+    }
+
+    /// The row that is lent.
+    pub fn row(&mut self) -> &mut [T] {
+        let end = self.whole.len() - GUARD;
+        &mut self.whole[GUARD..end]
+    }
+
+    /// `Ok` where the row begins with `filled` and all behind that, and both guards, are as before;
+    /// else the first item that differs.
+    pub fn holds(&self, filled: &[T]) -> Result<(), String> {
+        let end = self.whole.len() - GUARD;
+        if filled.len() > end - GUARD {
+            return Err(format!("{} items are due in a row of {}", filled.len(), end - GUARD));
+        }
+        for (place, (now, before)) in self.whole.iter().zip(&self.before).enumerate() {
+            let due = place.checked_sub(GUARD).and_then(|number| filled.get(number)).unwrap_or(before);
+            if now != due {
+                let number = place as i64 - GUARD as i64;
+                let lies = if (GUARD..end).contains(&place) { "in the row" } else { "in a guard" };
+                return Err(format!("item {number}, {lies}:\nproved   {now:?}\nexpected {due:?}"));
+            }
+        }
+        Ok(())
+    }
+}

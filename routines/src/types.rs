@@ -1,0 +1,55 @@
+//! The structs that cross to the library, field for field as in `../include/mrkvandel.h`, which
+//! says what each holds. They have no padding, so that fields that are equal are bytes that are.
+
+/// A glyph record.
+#[repr(C)]
+#[derive(Clone, Copy, Debug, Default, PartialEq, Eq)]
+pub struct Record {
+    pub ordinal: u32,
+    pub page: i32,
+    pub h: i32,
+    pub v: i32,
+    pub font: u32,
+    pub size: u32,
+    pub place: u32,
+    pub len: u32,
+    pub index: u32,
+    pub gap: u32,
+}
+
+/// An entry for a `D` or `x` command.
+#[repr(C)]
+#[derive(Clone, Copy, Debug, Default, PartialEq, Eq)]
+pub struct Entry {
+    pub command: u32,
+    pub letter: u32,
+    pub scheme: u32,
+    pub ordinal: u32,
+    pub place: u32,
+    pub len: u32,
+    pub h: i32,
+    pub v: i32,
+}
+
+/// A colour.
+#[repr(C)]
+#[derive(Clone, Copy, Debug, Default, PartialEq, Eq)]
+pub struct Colour {
+    pub scheme: u32,
+    pub parts: [u32; 4],
+}
+
+/// The reader's answer; `refusal` is 0 where the stream is accepted.
+#[repr(C)]
+#[derive(Clone, Copy, Debug, Default, PartialEq, Eq)]
+pub struct ReadResult {
+    pub offset: usize,
+    pub records: usize,
+    pub entries: usize,
+    pub refusal: u32,
+    pub pages: u32,
+    pub h: i32,
+    pub v: i32,
+    pub glyph: Colour,
+    pub fill: Colour,
+}

@@ -1,0 +1,214 @@
+//! The proved routines and the second program agree on the vectors and on generated streams: in the
+//! answer, in both rows, and in all that is to stay as it was.
+
+use routines::agree::{self, Measure, Seen, MEASURES};
+use routines::proved::{self, routine_of, Proved, ROUTINES};
+use routines::{expected, shape, Colour, Entry, ReadResult, Record};
+use second::generate;
+use second::generate::random::Random;
+use second::refusal::{Rooms, LIST_LIMIT, STREAM_LIMIT};
+use second::vectors::{self, Case, Routine, BODY_HEAD, BODY_TAIL, SAMPLE_LIST};
+use std::io::Write;
+use std::path::{Path, PathBuf};
+
+const INPUTS: u64 = 100_000;
+
+/// The refusal numbers that the reader can give.
+const REFUSALS: [usize; 12] = [1, 2, 3, 4, 5, 6, 7, 8, 9, 10, 11, 13];
+
+/// P1 of 01.
+const SAMPLE: &[u8] =
+    b"x T ps\nx res 72000 1 1\nx init\np1\nx font 1 TR\nf1\ns10000\nV12000\nH72000\ntab\nwh2500\nC'e\nx stop\n";
+
+/// Prints a line even where the test passes.
+fn say(line: String) {
+    let _ = writeln!(std::io::stderr(), "{line}");
+}
+
+/// The vector files, in the order of their names.
+fn vector_files() -> Vec<PathBuf> {
+    let folder = Path::new(env!("CARGO_MANIFEST_DIR")).join("../vectors");
+    let entries = folder.read_dir().expect("the vectors can be listed");
+    let mut paths: Vec<PathBuf> = entries.map(|entry| entry.expect("they can be listed").path()).collect();
+    paths.retain(|path| path.extension().is_some_and(|extension| extension == "vec"));
+    paths.sort();
+    paths
+}
+
+fn cases_of(path: &Path) -> Vec<Case> {
+    let text = std::fs::read_to_string(path).expect("a vector file can be read");
+    vectors::parse(&text).unwrap_or_else(|message| panic!("{}: {message}", path.display()))
+}
+
+/// Runs the checks of a case that are about a routine of the library; how many these are, and how
+/// many are left out, of the rewriter and of the finder.
+fn run_checks(mut case: Case) -> Result<[usize; 3], String> {
+    let is_left_out = |routine| !ROUTINES.contains(&routine);
+    let count = |routine| case.checks.iter().filter(|check| routine_of(check) == routine).count();
+    let [rewriter, finder] = [Routine::Rewriter, Routine::Finder]
+        .map(|routine| usize::from(is_left_out(routine)) * count(routine));
+    case.checks.retain(|check| ROUTINES.contains(&routine_of(check)));
+    vectors::run(&case, &Proved).map(|()| [case.checks.len(), rewriter, finder])
+}
+
+#[test]
+fn vectors_hold() {
+    let (mut cases, mut sums) = (0, [0; 3]);
+    let mut failures = Vec::new();
+    for case in vector_files().iter().flat_map(|path| cases_of(path)) {
+        cases += 1;
+        match run_checks(case) {
+            Ok(counts) => (0..3).for_each(|place| sums[place] += counts[place]),
+            Err(message) => failures.push(message),
+        }
+    }
+    assert!(failures.is_empty(), "{} cases fail\n{}", failures.len(), failures.join("\n"));
+    let [made, rewriter, finder] = sums;
+    say(format!(
+        "vectors: {cases} cases, {made} checks made; left out {rewriter} of the rewriter, {finder} of the finder"
+    ));
+    assert!(cases >= 958 && made >= 900, "vectors are missing");
+}
+
+/// Every vector's stream, with rows of every measure.
+#[test]
+fn vectors_agree() {
+    let mut seen = Seen::default();
+    for case in vector_files().iter().flat_map(|path| cases_of(path)) {
+        let agreed = agree::input(&case.stream, &case.list, &mut Random::new(seen.inputs), &mut seen);
+        agreed.unwrap_or_else(|message| panic!("case {}: {message}", case.name));
+    }
+    assert_all_seen("vectors", &seen, 1);
+}
+
+/// Generated streams, sound and damaged, with rows of every measure.
+#[test]
+fn generated_streams_agree() {
+    let mut seen = Seen::default();
+    for seed in 0..INPUTS {
+        let case = generate::case(seed);
+        // another sequence than the case's own
+        let mut random = Random::new(!seed);
+        let agreed = agree::input(&case.stream, &case.list, &mut random, &mut seen);
+        agreed.unwrap_or_else(|message| panic!("seed {seed}: {message}"));
+    }
+    assert_all_seen("generated", &seen, 100);
+}
+
+/// Every refusal of the reader came at least `least` times, and rows were as their measure says.
+fn assert_all_seen(label: &str, seen: &Seen, least: u64) {
+    let refusals = REFUSALS.map(|number| format!("{number}: {}", seen.times(number))).join(", ");
+    let (inputs, readings, accepted) = (seen.inputs, seen.readings(), seen.times(0));
+    say(format!("{label}: {inputs} inputs, {readings} readings, {accepted} accepted, refused {refusals}"));
+    for measure in MEASURES {
+        let counts = seen.answers[measure as usize];
+        let (all, accepted, no_room) = (counts.iter().sum::<u64>(), counts[0], counts[13]);
+        say(format!("  {measure:?}: {all} readings, {accepted} accepted, {no_room} without room"));
+        let is_as_it_says = match measure {
+            Measure::ExactlyEnough | Measure::Plenty => accepted >= least && no_room == 0,
+            Measure::OneRecordTooFew | Measure::OneEntryTooFew => no_room >= least && no_room == all,
+            Measure::Nothing => no_room >= least && accepted == 0,
+            Measure::WithoutOrder => no_room >= least && accepted >= least,
+        };
+        assert!(is_as_it_says, "{label}: {measure:?} {counts:?}");
+    }
+    for number in REFUSALS {
+        assert!(seen.times(number) >= least, "{label}: refusal {number} came {} times", seen.times(number));
+    }
+    assert_eq!(seen.times(12), 0, "{label}: the reader has no query");
+}
+
+/// A sound list of so many bytes: fonts with many widths, then two whose names take up the rest.
+fn list_of_length(length: usize) -> Vec<u8> {
+    let mut list = b"unitwidth=1000\n".to_vec();
+    let pairs = (b'A'..=b'Z').flat_map(|font| (33..=255).map(move |byte| (font, byte)));
+    for (font, byte) in pairs {
+        if length - list.len() < 110 {
+            break;
+        }
+        if byte == 33 {
+            list.extend([b"font=", &[font][..], b"\n"].concat());
+        }
+        list.extend(format!("byte={byte}\nwidth=1\n").bytes());
+    }
+    list.extend([b"font=", &[b'y'; 64][..], b"\n"].concat());
+    let rest = length - list.len() - b"font=\n".len();
+    list.extend([b"font=", &vec![b'z'; rest][..], b"\n"].concat());
+    list
+}
+
+/// The longest stream and the longest list are read, one of a byte more is refused before all else.
+#[test]
+fn lengths_at_the_limit() {
+    let rooms = Rooms { records: 10, entries: 10, ..Rooms::default() };
+    let read = |stream: &[u8], list: &[u8]| {
+        let answer = agree::reading(stream, list, rooms, &mut Random::new(0));
+        let answer = answer.unwrap_or_else(|message| panic!("{message}"));
+        (answer.refusal, answer.offset)
+    };
+    let sample_of = |length| [SAMPLE, &vec![b'\n'; length - SAMPLE.len()]].concat();
+    let short_of_list = |length| read(b"x T a\nx r 1 1 1\nx i\nx s\n", &list_of_length(length));
+    assert_eq!([LIST_LIMIT - 1, LIST_LIMIT, LIST_LIMIT + 1].map(short_of_list), [(0, 0), (0, 0), (1, 0)]);
+    let stream = sample_of(STREAM_LIMIT + 1);
+    assert_eq!(read(&stream[..STREAM_LIMIT], SAMPLE_LIST), (0, 0));
+    assert_eq!(read(&stream, SAMPLE_LIST), (1, 0));
+    assert_eq!(read(&stream, b""), (1, 0));
+    assert_eq!(read(b"", &list_of_length(LIST_LIMIT + 1)), (1, 0));
+    assert_eq!(read(&stream[..STREAM_LIMIT], b""), (2, 0));
+    assert_eq!(read(b"", SAMPLE_LIST), (11, 0));
+}
+
+/// Records and entries by the hundred thousand, and pages beyond what two bytes count.
+#[test]
+fn long_streams_agree() {
+    let text = shape::stream(2_000_000, &mut Random::new(0));
+    let many = b"p7\nDl 3 4\nDFg 5\nx X text\nH0V0ca\n".repeat(70_000);
+    let drawings = [BODY_HEAD, &many, BODY_TAIL].concat();
+    for (stream, list, least) in
+        [(text, shape::list(), [500_000, 100]), (drawings, SAMPLE_LIST.to_vec(), [70_000, 210_000])]
+    {
+        let mut random = Random::new(0);
+        let mut refusal = |records, entries| {
+            let rooms = Rooms { records, entries, ..Rooms::default() };
+            let answer = agree::reading(&stream, &list, rooms, &mut random);
+            answer.unwrap_or_else(|message| panic!("{message}")).refusal
+        };
+        let answer = expected::read(&stream, &list, Rooms::default()).answer;
+        let (records, entries) = (answer.records, answer.entries);
+        assert!(records >= least[0] && entries >= least[1], "{answer:?}");
+        assert_eq!(refusal(records, entries), 0);
+        assert_eq!(refusal(records - 1, entries), 13);
+        assert_eq!(refusal(records, entries - 1), 13);
+    }
+}
+
+/// Slices of nothing at all, and 01's own sample, by numbers written down by hand.
+#[test]
+fn answers_by_hand() {
+    let start = Colour { scheme: 100, parts: [0; 4] };
+    let refused = ReadResult { refusal: 2, glyph: start, fill: start, ..ReadResult::default() };
+    assert_eq!(proved::read(&[], &[], &mut [], &mut []), refused);
+
+    let mut records = [Record::default(); 3];
+    let mut entries = [Entry::default(); 5];
+    let answer = proved::read(SAMPLE, SAMPLE_LIST, &mut records, &mut entries);
+    let accepted =
+        ReadResult { records: 3, entries: 5, pages: 1, h: 75_440, v: 12_000, refusal: 0, ..refused };
+    assert_eq!(answer, accepted);
+    let first = Record {
+        ordinal: 1,
+        page: 1,
+        h: 72_000,
+        v: 12_000,
+        font: 1,
+        size: 10_000,
+        place: 70,
+        len: 1,
+        index: 0,
+        gap: 1,
+    };
+    let second = Record { h: 72_440, place: 71, gap: 0, ..first };
+    assert_eq!(records, [first, second, Record { h: 75_440, place: 81, len: 2, ..first }]);
+    let stop = Entry { command: 120, letter: 115, scheme: 0, ordinal: 1, place: 84, len: 6, h: 0, v: 0 };
+    assert_eq!(entries[4], stop);
+}
