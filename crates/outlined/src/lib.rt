@@ -230,7 +230,7 @@ fn is_fit(r: Reason) -> bool
 }
 
 // Whether a record is the glyph numbered j, the first one being on a page.
-fn fits(s: &[u8], q: &[u8], rows: &[u32], j: usize, page: u32, k: Key) -> bool
+pub fn fits(s: &[u8], q: &[u8], rows: &[u32], j: usize, page: u32, k: Key) -> bool
     requires { ⌜ (length (now rows) ≡ 193) × (j < 64) ⌝ }
     ensures { λ r. ⌜ r ≡ passes (glyphTest page (wantedIn (now (q .entry)) (now (rows .entry)) j) (keyIn (now (s .entry)) k)) ⌝ }
 {

@@ -7,7 +7,6 @@ use mathlib.Core.Logic.{_⊎_, inl, inr}
 use mathlib.Core.Path.{_≡_, refl, sym, ap, ap₂, subst, _∙_}
 use lib.Dec.{ltb, eqb}
 use lib.ListN.{length, take, drop, getD}
-use lib.Seq.{sets, sets-eq}
 use borrow.Author.Tests.{eq-eqb, ne-eqb, ltb-false, eqb-true}
 use Rattle.rules.specs.declared.Record.{Record}
 use Rattle.rules.specs.declared.Entry.{Entry}
@@ -15,7 +14,7 @@ use Rattle.rules.specs.Bytes.{if_then_else_, origin}
 use Rattle.rules.specs.Scan.{commands}
 use Rattle.rules.specs.State.{Env, start}
 use Rattle.rules.specs.Widths.{Widths, WidthList, unsound, sound, widthList}
-use Rattle.rules.specs.Record.{GlyphRow, ItemRow, Answer, refuse, answer, follow, recordOf, entryOf, over}
+use Rattle.rules.specs.Record.{GlyphRow, ItemRow, Answer, refuse, answer, follow, recordOf, entryOf}
 use Rattle.rules.specs.Answers.{streamMost, isOver, read, roomFor, readInto, readWith, readingOf, recordsOver, entriesOver}
 use Rattle.laws.proofs.Cases.{on, no as impossible, if-both}
 use Rattle.scanned.proofs.Walk.{from}
@@ -25,8 +24,8 @@ use Rattle.reader.specs.Environment.{envOf}
 use Rattle.reader.specs.Fits.{EnvFits}
 use Rattle.reader.specs.Turns.{fillsRecords, fillsEntries}
 use Rattle.reader.specs.Passes.{Pass, passFor, passOf}
-use Rattle.reader.proofs.Passes.{Going, Room, Refused, Accepted, Ended, pass-ends, judging-keeps}
-use Rattle.reader.proofs.Rows.{written}
+use Rattle.reader.proofs.Passes.{Going, Room, Refused, Accepted, Ended, pass-ends, judging-keeps, length-map}
+use Rattle.reader.proofs.Rows.{over-is}
 use Rattle.reader.proofs.Live.{Live}
 use Rattle.turns.specs.Ready.{findIn, Scratch, Ready}
 use Rattle.passes.specs.Sound.{Sound}
@@ -116,14 +115,6 @@ halted-pass find s p h = rw h
 or-true : (a b : Bool) → b ≡ true → (a || b) ≡ false → true ≡ false
 or-true true b e h = h
 or-true false b e h = sym e ∙ h
-
--- what is written from the first place on stands in front of what was there
-over-is {ℓ} : {A : Type ℓ} (new old : List A) → length new ≤ length old → sets old 0 new ≡ over new old
-over-is new old h = sets-eq new old 0 (omega arith) ∙ ap (λ (k : ℕ). new ++ drop k old) (let e : 0 + length new ≡ length new = omega arith in e)
-
-length-map {ℓ ℓ′} : {A : Type ℓ} {B : Type ℓ′} (f : A → B) (l : List A) → length (map f l) ≡ length l
-length-map f [] = refl
-length-map f (x ∷ l) = ap suc (length-map f l)
 
 -- a pass that begins with the scratch row of a sound list ends as the rules say
 run-ends : (s list : List ℕ) (w : Widths) → widthList list ≡ sound w → (ws : List ℕ) → ScratchOf list (w .fonts) ws → AreBytes s → (g e fill : ℕ) (rs : List Record) (es : List Entry)

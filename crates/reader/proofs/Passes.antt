@@ -103,7 +103,7 @@ pub record Stepped (rs : List GlyphRow) (xs : List ItemRow) (p p′ : Pass) : Ty
   pub records : p′ .records ≡ written (fillsRecords (p .state .fill)) (p .records) (p .state .records) (map recordOf rs)
   pub entries : p′ .entries ≡ written (fillsEntries (p .state .fill)) (p .entries) (p .state .entries) (map entryOf xs)
 
-length-map {ℓ ℓ′} : {A : Type ℓ} {B : Type ℓ′} (f : A → B) (l : List A) → length (map f l) ≡ length l
+pub length-map {ℓ ℓ′} : {A : Type ℓ} {B : Type ℓ′} (f : A → B) (l : List A) → length (map f l) ≡ length l
 length-map f [] = refl
 length-map f (x ∷ l) = ap suc (length-map f l)
 

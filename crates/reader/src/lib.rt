@@ -5,7 +5,8 @@ use rules::Entry;
 use rules::Record;
 
 // The environment, passed by value. Positions and the page number are moved up; font is 0 for none, else its position + 1. No
-// padding: 32-bit numbers alone.
+// padding, and each colour begins at a multiple of 8 bytes, as the environment does in what holds it: a struct that is not so placed
+// is copied in pieces that overlap, at a great cost in time.
 #[repr(C)]
 pub struct Environment {
     pub phase: u32,
@@ -16,8 +17,8 @@ pub struct Environment {
     pub v: u32,
     pub font: u32,
     pub size: u32,
-    pub gap: u32,
     pub ink: Colour,
+    pub gap: u32,
     pub paint: Colour,
 }
 
@@ -48,8 +49,8 @@ pub enum Emitted {
 
 // What one command did: the refusal's number, 0 for none, the environment behind it, and what it gives to the rows.
 pub struct Did {
-    pub refusal: u32,
     pub env: Environment,
+    pub refusal: u32,
     pub emitted: Emitted,
 }
 
@@ -66,8 +67,8 @@ pub struct State {
     pub fonts: usize,
     pub refusal: u32,
     pub fill: u32,
-    pub unitwidth: u32,
     pub env: Environment,
+    pub unitwidth: u32,
 }
 
 // What one turn of a pass does to the rows.
