@@ -1,17 +1,19 @@
 /*
  * Mrkvandel: the proved reader of troff intermediate output, as C functions.
  *
- * The library is target/staticlib/libcapi.a, for x86-64; `rt staticlib capi` proves and writes it. The source of these
- * declarations is crates/capi/src/lib.rt and, for records, entries and colours, crates/rules/src/lib.rt; routines/ tests that
- * this header agrees. What the answers mean is said in full by the definitions in crates/rules/specs.
+ * The library is target/staticlib/libcapi.a, for x86-64 and the System V calling convention; `rt staticlib capi` proves and writes
+ * it. Proved is what the functions answer and leave in the rows; the compiler behind the proof, the way into C and this header are
+ * tested (routines/). The source of these
+ * declarations is crates/capi/src/lib.rt and, for records, entries and colours, crates/rules/src/lib.rt. What the answers mean is
+ * said in full by the definitions in crates/rules/specs.
  *
  * Of every function here:
  *   - An input or a row crosses as a pointer and the number of its items (of bytes, records or entries).
  *   - Each pointer must be valid for that many items and aligned for them: to read for an input, to read and write for a row.
  *     None may be null, not even where the number is 0.
  *   - No row may overlap the other row or an input. The inputs may overlap each other. They are not changed.
- *   - Nothing else is asked of a caller: any bytes and any lengths will do.
- *   - Nothing is allocated and nothing is kept between calls.
+ *   - Nothing else is asked of a caller: any bytes and any lengths will do, and the rows may hold anything.
+ *   - Nothing is allocated and nothing is kept between calls. A call needs up to 80 KiB of the stack.
  *
  * For C11 and C++11, and later.
  */
@@ -54,13 +56,14 @@ enum {
     /* a number, count, name or text is outside its limit */
     MRKVANDEL_OUTSIDE_LIMIT = 6,
     /* the prologue is out of order, or a prologue command stands later; a motion, glyph, `N` or any `D` before the first `p`; a byte
-       of anything after `x s` (offset: that byte) */
+       of anything after `x s` (offset: that byte; nothing else is judged there) */
     MRKVANDEL_OUT_OF_ORDER = 7,
     /* `f` to an unmounted position; a glyph or `N` without current font and size */
     MRKVANDEL_NO_FONT = 8,
     /* no width for a byte of `t` or `u` */
     MRKVANDEL_NO_WIDTH = 9,
-    /* h or v beyond 99,999,999 either way after a command, or after any glyph of a word */
+    /* h or v beyond 99,999,999 either way after a command, or after any glyph of a word (`Dp` and the like: at the end
+       only) */
     MRKVANDEL_OUT_OF_REACH = 10,
     /* no `x s`; offset: the length of the stream */
     MRKVANDEL_NO_STOP = 11,
@@ -88,7 +91,7 @@ typedef struct mrkvandel_record {
 /* An entry for a `D` or `x` command: 32 bytes. */
 typedef struct mrkvandel_entry {
     uint32_t command; /* the byte `D` or `x` */
-    uint32_t letter;  /* the byte behind it: the letter of `D`, the first byte of the word of `x` */
+    uint32_t letter;  /* the letter of `D`, the first byte of the word of `x`; a spacer may stand before it */
     uint32_t scheme;  /* of `DF` its third letter, one of `c`, `d`, `g`, `k`, `r`; else 0 */
     uint32_t ordinal; /* which page it is on, counted: 1 for the first `p`, 0 before it */
     uint32_t place;   /* where the command begins in the stream, counted from 0 */
@@ -131,7 +134,7 @@ MRKVANDEL_ASSERT(sizeof(mrkvandel_read_result) == 80, "the reader's answer has 8
  * written; what lies behind them in the rows is unchanged. A row that is exactly full is large enough.
  * Refused: both rows are unchanged, every byte of them.
  *
- * A stream of n bytes needs at most n records and n / 2 entries.
+ * A stream of n bytes has at most n records and n / 2 entries: each record has a byte of its own, each entry two. (Tested, not proved.)
  */
 mrkvandel_read_result mrkvandel_read(const uint8_t *stream, size_t stream_len, const uint8_t *widths, size_t widths_len,
                                      mrkvandel_record *records, size_t records_len, mrkvandel_entry *entries, size_t entries_len);

@@ -4,6 +4,7 @@ ghost use mathlib.Core.Path.{_≡_};
 ghost use Prim.Native.Nat.{_<_};
 ghost use lib.ListN.{length};
 ghost use Rattle.rules.specs.Find.{gapTest, glyphTest};
+ghost use Rattle.query.specs.Parts.{partIn};
 ghost use Rattle.matching.specs.Matching.{keyIn, keyOf, gapAt, wantedIn, reasonOf};
 
 // What finding looks at in a record.
@@ -32,6 +33,13 @@ pub fn key_of(r: Record) -> Key
         place: r.place as usize,
         len: r.len as usize,
     }
+}
+
+// The name of a record: the caller's part of the stream.
+pub fn name_of<'a>(s: &'a [u8], r: Record) -> &'a [u8]
+    ensures { λ n. ⌜ now n ≡ partIn (now (s .entry)) (r .place) (r .len) ⌝ }
+{
+    query::part(s, r.place as usize, r.len as usize)
 }
 
 // The gap mark against what the glyph asks of it: 0 nothing, 1 that it is not set, 2 that it is.

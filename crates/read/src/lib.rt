@@ -1,4 +1,4 @@
-// The reader (document 01, "Reading"): a stream with its width list, and two lent rows. One pass judges the stream, and where nothing
+// The reader: a stream with its width list, and two lent rows (document 01). One pass judges the stream, and where nothing
 // is against it a second one fills the rows.
 use rules::Entry;
 use rules::Reading;

@@ -1,5 +1,6 @@
 // The reader: one pass over the stream, run twice, first to judge it and then to fill the lent rows. Here stand its types; what a turn
-// and a pass do is defined in specs/, and proofs/Passes.antt shows that a pass ends as the rules say. The code comes next.
+// and a pass do is defined in specs/, and proofs/Passes.antt shows that a pass ends as the rules say. The code stands in the crates
+// above: effects, turns, rows, passes, plan, read.
 use rules::Colour;
 use rules::Entry;
 use rules::Record;
@@ -55,7 +56,8 @@ pub struct Did {
 }
 
 // Where a pass stands. `left` is how many bytes there are from `at` on, 0 once the pass has stopped; the rooms are those of the lent
-// rows; `fonts` is how many fonts the width list has; `refusal` is 0 for none; `fill` is 0 where the pass judges, 1 where it fills both rows, 2 where it fills the records alone.
+// rows; `fonts` is how many fonts the width list has; `refusal` is 0 for none; `fill` is 0 where the pass judges, 1 where it fills both
+// rows, 2 where it fills the records alone.
 #[repr(C)]
 pub struct State {
     pub left: usize,
