@@ -155,7 +155,7 @@ fn begin(n: usize, rmax: usize, emax: usize, fonts: usize, unitwidth: u32, fill:
     }
 }
 
-fn refused(number: u32, offset: usize) -> State
+pub fn refused(number: u32, offset: usize) -> State
     ensures { λ r. ⌜ r ≡ refusedAt number offset ⌝ }
 {
     State {

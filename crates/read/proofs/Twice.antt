@@ -42,7 +42,7 @@ passFrom st ws rs es = record { state = st; scratch = ws; records = rs; entries 
 start-fits : (at : ℕ) → EnvFits at startEnv
 start-fits at = record { h-some = omega arith; h-most = omega arith; v-some = omega arith; v-most = omega arith; number = omega arith; ordinal = omega arith; size = omega arith; quantum-some = omega arith; quantum-most = omega arith; font = omega arith }
 
-refused-sound : (n : ℕ) (ws : List ℕ) (g e number offset : ℕ) → Scratch ws → Sound n ws g e (refusedAt number offset)
+pub refused-sound : (n : ℕ) (ws : List ℕ) (g e number offset : ℕ) → Scratch ws → Sound n ws g e (refusedAt number offset)
 refused-sound n ws g e number offset k = record {
   scratch = k;
   ready = λ z. absurd (let y : 0 < 0 = z in omega arith);
@@ -54,7 +54,7 @@ refused-sound n ws g e number offset k = record {
 begin-ready : (n g e fonts unit fill : ℕ) → n ≤ 16777216 → fonts ≤ 32 → 1 ≤ unit → unit ≤ 100000 → 0 < n → Ready n (beginOf n g e fonts unit fill)
 begin-ready n g e fonts unit fill a b c d z = record { some = z; ends = omega arith; most = a; fits = start-fits 0; unit-some = c; unit-most = d; few = b; records = omega arith; entries = omega arith }
 
-not-over : (s list : List ℕ) → (isOver streamMost s || isOver 65_536 list) ≡ false → length s ≤ 16777216
+pub not-over : (s list : List ℕ) → (isOver streamMost s || isOver 65_536 list) ≡ false → length s ≤ 16777216
 not-over s list h = ltb-false streamMost (length s) (on (isOver streamMost s) (λ y. impossible (sym (rw y at h))) (λ y. y))
 
 -- what the judging pass asks
@@ -108,7 +108,7 @@ module _ (s list : List ℕ) (a : State) (ws : List ℕ) where
   started-case h = or-case (isOver streamMost s || isOver 65_536 list) refl h
 
 -- a pass that does not go on
-halted-pass : (find : List ℕ → ℕ) (s : List ℕ) (p : Pass) → p .state .left ≡ 0 → passOf find s p ≡ p
+pub halted-pass : (find : List ℕ → ℕ) (s : List ℕ) (p : Pass) → p .state .left ≡ 0 → passOf find s p ≡ p
 unfolding passFor
 halted-pass find s p h = rw h
 
@@ -153,43 +153,76 @@ module _ (s list : List ℕ) (rs : List Record) (es : List Entry) (a : State) (w
     abbrev said : Answer
     said = follow (o .widths) start (commands 0 0 s)
 
-    abbrev begun : State
+    abbrev pub begun : State
     begun = beginOf (length s) (length s) (length s) (length (o .widths .fonts)) (o .widths .unitwidth) 0
 
     on-pass : p ≡ passOf (findIn list (length (o .widths .fonts)) ws₁) s (passFrom begun ws₁ rs es)
     on-pass = is ∙ ap (λ (z : State). passOf (findIn list (z .fonts) ws₁) s (passFrom z ws₁ rs es)) (o .state)
 
-    on-ends : Ended said (passFrom begun ws₁ rs es) p
+    pub on-ends : Ended said (passFrom begun ws₁ rs es) p
     on-ends =
         subst (Ended said (passFrom begun ws₁ rs es)) (sym on-pass)
         (run-ends s list (o .widths) (o .list-is) ws₁ (o .scratch) y (length s) (length s) 0 rs es (inl (omega arith, omega arith, omega arith, omega arith)))
 
-    kept-records : p .records ≡ rs
+    pub kept-records : p .records ≡ rs
     kept-records = ap (λ (z : Pass). z .records) on-pass ∙ judging-keeps (findIn list (length (o .widths .fonts)) ws₁) s (length s) (passFrom begun ws₁ rs es) refl .0
 
     kept-entries : p .entries ≡ es
     kept-entries = ap (λ (z : Pass). z .entries) on-pass ∙ judging-keeps (findIn list (length (o .widths .fonts)) ws₁) s (length s) (passFrom begun ws₁ rs es) refl .1
 
+    -- it accepted
+    module _ (xs : List GlyphRow) (zs : List ItemRow) (d : Env) (said-is : said ≡ answer xs zs d) (g : Accepted xs zs d (passFrom begun ws₁ rs es) p) where
+      pub judged-count : p .state .records ≡ length xs
+      judged-count = g .count ∙ (let e : 0 + length xs ≡ length xs = omega arith in e)
+
+      pub judged-number : p .state .entries ≡ length zs
+      judged-number = g .number ∙ (let e : 0 + length zs ≡ length zs = omega arith in e)
+
+      -- then a pass that fills, with rooms that are large enough, accepts too
+      module _ (emax fill : ℕ) (ws₂ : List ℕ) (u : Unmounted (p .scratch) ws₂) (c : State) (next : c ≡ beginOf (length s) (length rs) emax (p .state .fonts) (p .state .unitwidth) fill) where
+        abbrev pub refill : State
+        refill = beginOf (length s) (length rs) emax (length (o .widths .fonts)) (o .widths .unitwidth) fill
+
+        refill-is : c ≡ refill
+        refill-is =
+            let k : p .state .fonts ≡ length (o .widths .fonts) = judged .fonts ∙ ap (λ (z : State). z .fonts) (o .state) in
+            let v : p .state .unitwidth ≡ o .widths .unitwidth = judged .unit ∙ ap (λ (z : State). z .unitwidth) (o .state) in
+            next ∙ rw (k, v)
+
+        pub refilled : length xs ≤ length rs → length zs ≤ emax → (q : Pass) → q ≡ passOf (findIn list (c .fonts) ws₂) s (passFrom c ws₂ (p .records) (p .entries)) → Accepted xs zs d (passFrom refill ws₂ (p .records) (p .entries)) q
+        refilled records-fit entries-fit q ends =
+            let b : q ≡ passOf (findIn list (length (o .widths .fonts)) ws₂) s (passFrom refill ws₂ (p .records) (p .entries)) = ends ∙ ap (λ (z : State). passOf (findIn list (z .fonts) ws₂) s (passFrom z ws₂ (p .records) (p .entries))) refill-is in
+            let k : ScratchOf list (o .widths .fonts) ws₂ = scratch-again list (o .widths .fonts) ws₁ (p .scratch) ws₂ (o .scratch) (judged .kept) u (sound-few list (o .widths) (o .list-is)) in
+            let e : Ended said (passFrom refill ws₂ (p .records) (p .entries)) q =
+            subst (Ended said (passFrom refill ws₂ (p .records) (p .entries))) (sym b)
+            (run-ends s list (o .widths) (o .list-is) ws₂ k y (length rs) emax fill (p .records) (p .entries)
+            (subst (λ (x : Answer). Room (length s) x refill) (sym said-is) (inr (omega (arith, records-fit), omega (arith, entries-fit))))) in
+            subst (λ (x : Answer). Ended x (passFrom refill ws₂ (p .records) (p .entries)) q) said-is e
+
+  -- what a pass that fills asks, where it fills rows of these lengths
+  pub filling-sound : (emax fill : ℕ) → (fillsEntries fill ≡ true → emax ≡ length (p .entries)) → (ws₂ : List ℕ) → Unmounted (p .scratch) ws₂ → On s list a ws₁
+      → Sound (length s) ws₂ (length (p .records)) (length (p .entries)) (againOf (p .state) (length s) (length rs) emax fill)
+  filling-sound emax fill whole ws₂ u o =
+      let P : State → Type 0 = Sound (length s) ws₂ (length (p .records)) (length (p .entries)) in
+      let k : p .state .fonts ≡ length (o .widths .fonts) = judged .fonts ∙ ap (λ (z : State). z .fonts) (o .state) in
+      let v : p .state .unitwidth ≡ o .widths .unitwidth = judged .unit ∙ ap (λ (z : State). z .unitwidth) (o .state) in
+      if-both P (eqb (p .state .refusal) 0) _ (refusedAt (p .state .refusal) (p .state .at))
+      (if-both P (eqb (p .state .env .phase) 4) _ (refusedAt 11 (p .state .at))
+      (if-both P (ltb (length rs) (p .state .records) || ltb emax (p .state .entries)) (refusedAt 13 0) _ (refused-sound (length s) ws₂ (length (p .records)) (length (p .entries)) 13 0 (u .scratch))
+      (record {
+        scratch = u .scratch;
+        ready = begin-ready (length s) (length rs) emax (p .state .fonts) (p .state .unitwidth) fill (o .short) (omega (arith, k, sound-few list (o .widths) (o .list-is))) (omega (arith, v, sound-unit list (o .widths) (o .list-is) .0)) (omega (arith, v, sound-unit list (o .widths) (o .list-is) .1));
+        fits = start-fits 0;
+        rmax = λ z. sym judged-records;
+        emax = whole;
+      }))
+      (refused-sound (length s) ws₂ (length (p .records)) (length (p .entries)) 11 (p .state .at) (u .scratch)))
+      (refused-sound (length s) ws₂ (length (p .records)) (length (p .entries)) (p .state .refusal) (p .state .at) (u .scratch))
+
   module _ (c : State) (next : c ≡ againOf (p .state) (length s) (length rs) (length es) 1) (ws₂ : List ℕ) (u : Unmounted (p .scratch) ws₂) where
     -- what the filling pass asks
     on-sound : On s list a ws₁ → Sound (length s) ws₂ (length (p .records)) (length (p .entries)) c
-    on-sound o =
-        let P : State → Type 0 = Sound (length s) ws₂ (length (p .records)) (length (p .entries)) in
-        let k : p .state .fonts ≡ length (o .widths .fonts) = judged .fonts ∙ ap (λ (z : State). z .fonts) (o .state) in
-        let v : p .state .unitwidth ≡ o .widths .unitwidth = judged .unit ∙ ap (λ (z : State). z .unitwidth) (o .state) in
-        subst P (sym next)
-        (if-both P (eqb (p .state .refusal) 0) _ (refusedAt (p .state .refusal) (p .state .at))
-        (if-both P (eqb (p .state .env .phase) 4) _ (refusedAt 11 (p .state .at))
-        (if-both P (ltb (length rs) (p .state .records) || ltb (length es) (p .state .entries)) (refusedAt 13 0) _ (refused-sound (length s) ws₂ (length (p .records)) (length (p .entries)) 13 0 (u .scratch))
-        (record {
-          scratch = u .scratch;
-          ready = begin-ready (length s) (length rs) (length es) (p .state .fonts) (p .state .unitwidth) 1 (o .short) (omega (arith, k, sound-few list (o .widths) (o .list-is))) (omega (arith, v, sound-unit list (o .widths) (o .list-is) .0)) (omega (arith, v, sound-unit list (o .widths) (o .list-is) .1));
-          fits = start-fits 0;
-          rmax = λ z. sym judged-records;
-          emax = λ z. sym judged-entries;
-        }))
-        (refused-sound (length s) ws₂ (length (p .records)) (length (p .entries)) 11 (p .state .at) (u .scratch)))
-        (refused-sound (length s) ws₂ (length (p .records)) (length (p .entries)) (p .state .refusal) (p .state .at) (u .scratch)))
+    on-sound o = subst (Sound (length s) ws₂ (length (p .records)) (length (p .entries))) (sym next) (filling-sound (length es) 1 (λ z. sym judged-entries) ws₂ u o)
 
     case-sound : Off s list a ⊎ On s list a ws₁ → Sound (length s) ws₂ (length (p .records)) (length (p .entries)) c
     case-sound (inl o) = subst (Sound (length s) ws₂ (length (p .records)) (length (p .entries))) (sym (next ∙ off-next o)) (refused-sound (length s) ws₂ (length (p .records)) (length (p .entries)) (o .number) (o .offset) (u .scratch))
@@ -233,21 +266,12 @@ module _ (s list : List ℕ) (rs : List Record) (es : List Entry) (a : State) (w
           full = ltb (length rs) (length xs) || ltb (length es) (length zs)
 
           next-is : c ≡ (if full then refusedAt 13 0 else beginOf (length s) (length rs) (length es) (p .state .fonts) (p .state .unitwidth) 1)
-          next-is =
-              let r : p .state .records ≡ length xs = g .count ∙ (let e : 0 + length xs ≡ length xs = omega arith in e) in
-              let x : p .state .entries ≡ length zs = g .number ∙ (let e : 0 + length zs ≡ length zs = omega arith in e) in
-              next ∙ rw (g .clear, g .stopped, r, x)
+          next-is = next ∙ rw (g .clear, g .stopped, judged-count y o xs zs d said-is g, judged-number y o xs zs d said-is g)
 
           -- then the second pass fills the rows
           module _ (roomy : full ≡ false) where
-            abbrev again : State
-            again = beginOf (length s) (length rs) (length es) (length (o .widths .fonts)) (o .widths .unitwidth) 1
-
-            again-is : c ≡ again
-            again-is =
-                let k : p .state .fonts ≡ length (o .widths .fonts) = judged .fonts ∙ ap (λ (z : State). z .fonts) (o .state) in
-                let v : p .state .unitwidth ≡ o .widths .unitwidth = judged .unit ∙ ap (λ (z : State). z .unitwidth) (o .state) in
-                next-is ∙ rw (roomy, k, v)
+            fills : c ≡ beginOf (length s) (length rs) (length es) (p .state .fonts) (p .state .unitwidth) 1
+            fills = next-is ∙ rw roomy
 
             records-fit : length xs ≤ length rs
             records-fit = ltb-false (length rs) (length xs) (on (ltb (length rs) (length xs)) (λ z. impossible (sym (rw z at roomy))) (λ z. z))
@@ -255,15 +279,8 @@ module _ (s list : List ℕ) (rs : List Record) (es : List Entry) (a : State) (w
             entries-fit : length zs ≤ length es
             entries-fit = ltb-false (length es) (length zs) (on (ltb (length es) (length zs)) (λ z. impossible (sym (or-true (ltb (length rs) (length xs)) (ltb (length es) (length zs)) z roomy))) (λ z. z))
 
-            filling : Accepted xs zs d (passFrom again ws₂ (p .records) (p .entries)) q
-            filling =
-                let b : q ≡ passOf (findIn list (length (o .widths .fonts)) ws₂) s (passFrom again ws₂ (p .records) (p .entries)) = ends ∙ ap (λ (z : State). passOf (findIn list (z .fonts) ws₂) s (passFrom z ws₂ (p .records) (p .entries))) again-is in
-                let k : ScratchOf list (o .widths .fonts) ws₂ = scratch-again list (o .widths .fonts) ws₁ (p .scratch) ws₂ (o .scratch) (judged .kept) u (sound-few list (o .widths) (o .list-is)) in
-                let e : Ended (follow (o .widths) start (commands 0 0 s)) (passFrom again ws₂ (p .records) (p .entries)) q =
-                subst (Ended (follow (o .widths) start (commands 0 0 s)) (passFrom again ws₂ (p .records) (p .entries))) (sym b)
-                (run-ends s list (o .widths) (o .list-is) ws₂ k y (length rs) (length es) 1 (p .records) (p .entries)
-                (subst (λ (x : Answer). Room (length s) x again) (sym said-is) (inr (omega (arith, records-fit), omega (arith, entries-fit))))) in
-                subst (λ (x : Answer). Ended x (passFrom again ws₂ (p .records) (p .entries)) q) said-is e
+            filling : Accepted xs zs d (passFrom (refill y o xs zs d said-is g (length es) 1 ws₂ u c fills) ws₂ (p .records) (p .entries)) q
+            filling = refilled y o xs zs d said-is g (length es) 1 ws₂ u c fills records-fit entries-fit q ends
 
             filled : Answered (answer xs zs d)
             filled =

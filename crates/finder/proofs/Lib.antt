@@ -1,0 +1,4 @@
+pub mod Asking
+pub mod Around
+pub mod Within
+pub mod Found
