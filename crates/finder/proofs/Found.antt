@@ -178,16 +178,16 @@ take-front [] ys = refl
 take-front (x ∷ xs) ys = ap (λ (l : List _). x ∷ l) (take-front xs ys)
 
 -- a record's name stands at its place
-seen-is : (s : List ℕ) (r : GlyphRow) → RowIn s r → keyIn s (keyOf (recordOf r)) ≡ keyOfRow r
+pub seen-is : (s : List ℕ) (r : GlyphRow) → RowIn s r → keyIn s (keyOf (recordOf r)) ≡ keyOfRow r
 seen-is s r h =
     let e : partIn s (r .place) (length (r .glyph .name)) ≡ r .glyph .name = part-in s (r .place) (length (r .glyph .name)) (h .within) ∙ h .stands in
     λ i. record { name = e i; gap = r .glyph .gap; ordinal = r .glyph .ordinal }
 
-all-seen : (s : List ℕ) (xs : List GlyphRow) → AllRows s xs → map (λ (r : Record). keyIn s (keyOf r)) (map recordOf xs) ≡ map keyOfRow xs
+pub all-seen : (s : List ℕ) (xs : List GlyphRow) → AllRows s xs → map (λ (r : Record). keyIn s (keyOf r)) (map recordOf xs) ≡ map keyOfRow xs
 all-seen s [] h = refl
 all-seen s (x ∷ xs) h = ap₂ (λ (k : Key) (l : List Key). k ∷ l) (seen-is s x (h .0)) (all-seen s xs (h .1))
 
-row-seen : (s : List ℕ) (xs : List GlyphRow) (old : List Record) → AllRows s xs → map (λ (r : Record). keyIn s (keyOf r)) (take (length xs) (over (map recordOf xs) old)) ≡ map keyOfRow xs
+pub row-seen : (s : List ℕ) (xs : List GlyphRow) (old : List Record) → AllRows s xs → map (λ (r : Record). keyIn s (keyOf r)) (take (length xs) (over (map recordOf xs) old)) ≡ map keyOfRow xs
 row-seen s xs old h =
     ap (λ (n : ℕ). map (λ (r : Record). keyIn s (keyOf r)) (take n (over (map recordOf xs) old))) (sym (length-map recordOf xs))
     ∙ ap (map (λ (r : Record). keyIn s (keyOf r))) (take-front (map recordOf xs) (drop (length (map recordOf xs)) old))

@@ -1,0 +1,71 @@
+-- Demand 3, said of the finder's own answers and rows: whatever a call answers and leaves, if it meets the contract of `find`.
+-- Statements; the proofs stand in proofs/Demand.antt. Assumes nothing.
+use Prim.Native.Nat.{ℕ, _<_}
+use mathlib.Core.List.{List, map}
+use mathlib.Core.Path.{_≡_}
+use lib.ListN.{length, take, getD}
+use Rattle.rules.specs.declared.Record.{Record}
+use Rattle.rules.specs.declared.Finding.{Finding}
+use Rattle.rules.specs.declared.Finding.the-variants as F
+use Rattle.rules.specs.Record.{recordOf}
+use Rattle.rules.specs.Find.{Wanted, query, wellFormed, Key}
+use Rattle.rules.specs.Answers.{read, findInto, findingOf, recordsFound, hitsOver}
+use Rattle.reading.specs.Outline.{outline}
+use Rattle.finding.specs.Occurs.{OccursAt, Elem, Rising}
+use Rattle.theorems.specs.Statements.{Accepted, rowsIn, cmdsOf}
+use Rattle.query.specs.Parts.{partIn}
+use Rattle.matching.specs.Matching.{keyIn, keyOf}
+use Rattle.searching.specs.Searching.{blank}
+
+-- the contract of `find`: rows rs and hs were lent, the answer is r, and the rows hold rs′ and hs′ afterwards
+pub record Call (s list q : List ℕ) (rs : List Record) (hs : List ℕ) (r : Finding) (rs′ : List Record) (hs′ : List ℕ) : Type 0 where
+  pub answer : r ≡ findingOf (findInto (length rs) (length hs) s list q)
+  pub records : rs′ ≡ recordsFound rs (findInto (length rs) (length hs) s list q)
+  pub hits : hs′ ≡ hitsOver hs (findInto (length rs) (length hs) s list q)
+
+-- the first n records, as finding sees them
+abbrev pub seenIn : List ℕ → ℕ → List Record → List Key
+seenIn s n rs = map (λ (r : Record). keyIn s (keyOf r)) (take n rs)
+
+-- "The finder's list is exact: the number of every record at which the query occurs by 01's rule, each once, earliest first, no
+-- other"; its records are those of demand 2
+pub record ExactList (s list q : List ℕ) (n k : ℕ) (rs′ : List Record) (hs′ : List ℕ) : Type 0 where
+  pub glyphs : List Wanted
+  pub asked : query q ≡ wellFormed glyphs
+  pub accepted : Accepted s list
+  pub records : take n rs′ ≡ map recordOf (rowsIn (read s list))
+  pub count : length (take k hs′) ≡ k
+  pub rising : Rising (take k hs′)
+  pub only : (i : ℕ) → Elem i (take k hs′) → OccursAt glyphs (seenIn s n rs′) i
+  pub every : (i : ℕ) → OccursAt glyphs (seenIn s n rs′) i → Elem i (take k hs′)
+  pub below : (i : ℕ) → Elem i (take k hs′) → i < n
+
+abbrev pub IsExact : Type 0
+IsExact = (s list q : List ℕ) (rs : List Record) (hs : List ℕ) (n k : ℕ) (rs′ : List Record) (hs′ : List ℕ) → Call s list q rs hs (F.Accepted n k) rs′ hs′ → ExactList s list q n k rs′ hs′
+
+-- two calls answer the same, and list the same where they list
+pub record SameList (r r₂ : Finding) (hs′ hs₂′ : List ℕ) : Type 0 where
+  pub answer : r ≡ r₂
+  pub hits : (n k : ℕ) → r ≡ F.Accepted n k → take k hs′ ≡ take k hs₂′
+
+-- "whatever the rows held before": rows of the same lengths
+abbrev pub WhateverBefore : Type 0
+WhateverBefore = (s list q : List ℕ) (rs rs₂ : List Record) (hs hs₂ : List ℕ) (r r₂ : Finding) (rs′ rs₂′ : List Record) (hs′ hs₂′ : List ℕ)
+    → Call s list q rs hs r rs′ hs′ → Call s list q rs₂ hs₂ r₂ rs₂′ hs₂′ → length rs ≡ length rs₂ → length hs ≡ length hs₂ → SameList r r₂ hs′ hs₂′
+
+-- "whichever of t, u, c, C or the two-digit form set a one-byte name": streams of one outline (`Statements.ByAnyCommand`)
+abbrev pub ByAnyCommandFound : Type 0
+ByAnyCommandFound = (s list s₂ list₂ q : List ℕ) (rs rs₂ : List Record) (hs hs₂ : List ℕ) (r r₂ : Finding) (rs′ rs₂′ : List Record) (hs′ hs₂′ : List ℕ)
+    → Call s list q rs hs r rs′ hs′ → Call s₂ list₂ q rs₂ hs₂ r₂ rs₂′ hs₂′ → length rs ≡ length rs₂ → length hs ≡ length hs₂
+    → Accepted s list → Accepted s₂ list₂ → outline (cmdsOf s) ≡ outline (cmdsOf s₂) → SameList r r₂ hs′ hs₂′
+
+-- "two accepted streams with equally many records, alike in name bytes, gap mark and page ordinal, give every well-formed query the
+-- same answer": the first n records of both rows are alike
+pub record AlikeRows (s s₂ : List ℕ) (n : ℕ) (rs rs₂ : List Record) : Type 0 where
+  pub name : (i : ℕ) → i < n → partIn s (getD rs i blank .place) (getD rs i blank .len) ≡ partIn s₂ (getD rs₂ i blank .place) (getD rs₂ i blank .len)
+  pub gap : (i : ℕ) → i < n → getD rs i blank .gap ≡ getD rs₂ i blank .gap
+  pub ordinal : (i : ℕ) → i < n → getD rs i blank .ordinal ≡ getD rs₂ i blank .ordinal
+
+abbrev pub LikenessFound : Type 0
+LikenessFound = (s list s₂ list₂ q : List ℕ) (rs rs₂ : List Record) (hs hs₂ : List ℕ) (n k k₂ : ℕ) (rs′ rs₂′ : List Record) (hs′ hs₂′ : List ℕ)
+    → Call s list q rs hs (F.Accepted n k) rs′ hs′ → Call s₂ list₂ q rs₂ hs₂ (F.Accepted n k₂) rs₂′ hs₂′ → AlikeRows s s₂ n rs′ rs₂′ → SameList (F.Accepted n k) (F.Accepted n k₂) hs′ hs₂′
