@@ -8,7 +8,7 @@ ghost use lib.ListN.{length};
 ghost use Rattle.rules.specs.Answers.{readInto, readingOf, recordsOver, entriesOver};
 ghost use Rattle.turns.specs.Ready.{Scratch};
 
-fn room() -> [u32; 8768]
+pub fn room() -> [u32; 8768]
     ensures { λ r. ⌜ Scratch r ⌝ }
 {
     [0u32; 8768]
