@@ -1,7 +1,7 @@
 //! Generated commands, width lists and queries: the same for the same seed, always.
 
 use second::generate::damage::damage;
-use second::generate::list::sound_list;
+use second::generate::list::{of_length, sound_list};
 use second::generate::random::Random;
 use second::refusal::{LIST_LIMIT, QUERY_LIMIT};
 
@@ -212,7 +212,7 @@ fn text(random: &mut Random) -> Vec<u8> {
 /// A width list: sound, near its limits, damaged, or of a length near the limit.
 pub fn list(random: &mut Random) -> Vec<u8> {
     match random.below(400) {
-        0 => return list_of_length(LIST_LIMIT - 2 + random.below(5)),
+        0 => return of_length(LIST_LIMIT - 2 + random.below(5)),
         1 => return vec![b'\n'; LIST_LIMIT + random.below(2)],
         2 => return Vec::new(),
         _ => {}
@@ -260,26 +260,6 @@ fn edge_pair(random: &mut Random, byte: usize) -> Vec<u8> {
     let wrong: [&[u8]; 6] = [b"100001", b"00", b"01", b"", b"18446744073709551617", b"4294967296"];
     let width = if random.once_in(30) { random.part(&wrong) } else { random.part(&widths) };
     [format!("byte={byte}\nwidth=").as_bytes(), width, b"\n"].concat()
-}
-
-/// A sound list of so many bytes, 300 to 100,000: pairs, then three fonts whose names take up the rest.
-pub fn list_of_length(length: usize) -> Vec<u8> {
-    let mut list = b"unitwidth=1000\n".to_vec();
-    let places = (b'A'..=b'Z').flat_map(|font| (33..=255).map(move |byte| (font, byte)));
-    for (font, byte) in places {
-        if length - list.len() < 200 {
-            break;
-        }
-        if byte == 33 {
-            list.extend([b"font=", &[font][..], b"\n"].concat());
-        }
-        list.extend(format!("byte={byte}\nwidth=1\n").bytes());
-    }
-    let rest = length - list.len() - 2 * 70 - 6;
-    for name in [vec![b'y'; 64], vec![b'z'; 64], vec![b'#'; rest]] {
-        list.extend([b"font=", &name[..], b"\n"].concat());
-    }
-    list
 }
 
 /// A query: of sound lines, some of them wrong, damaged, or of a length near the limit.

@@ -7,7 +7,6 @@ use second::generate::random::Random;
 use second::refusal::{LIST_LIMIT, QUERY_LIMIT};
 use second::vectors::{self, Case};
 use std::io::Write;
-use std::path::{Path, PathBuf};
 
 const COMMANDS: u64 = 250_000;
 const STREAMS: u64 = 5_000;
@@ -19,18 +18,8 @@ fn say(line: String) {
     let _ = writeln!(std::io::stderr(), "{line}");
 }
 
-/// The cases of every vector file.
 fn vector_cases() -> Vec<Case> {
-    let folder = Path::new(env!("CARGO_MANIFEST_DIR")).join("../vectors");
-    let entries = folder.read_dir().expect("the vectors can be listed");
-    let paths = entries.map(|entry| entry.expect("the vectors can be listed").path());
-    let is_vector = |path: &PathBuf| path.extension().is_some_and(|extension| extension == "vec");
-    paths.filter(is_vector).flat_map(|path| cases_of(&path)).collect()
-}
-
-fn cases_of(path: &Path) -> Vec<Case> {
-    let text = std::fs::read_to_string(path).expect("a vector file can be read");
-    vectors::parse(&text).unwrap_or_else(|message| panic!("{}: {message}", path.display()))
+    vectors::all_cases().expect("the vectors can be read")
 }
 
 /// Every case of a command and every refusal of its form came at least `least` times.
@@ -116,7 +105,7 @@ fn generated_queries_agree() {
 /// A sound list of 65,536 bytes is read, one of a byte more is too long; so for a query of 8,192.
 #[test]
 fn lengths_at_the_limit() {
-    let tag = |length| agree::list(&inputs::list_of_length(length)).tag;
+    let tag = |length| agree::list(&generate::list::of_length(length)).tag;
     assert_eq!([LIST_LIMIT - 1, LIST_LIMIT, LIST_LIMIT + 1].map(tag), [2, 2, 0]);
     let tag = |length| agree::query(&vec![b'\n'; length]).tag;
     assert_eq!([QUERY_LIMIT - 1, QUERY_LIMIT, QUERY_LIMIT + 1].map(tag), [1, 1, 0]);

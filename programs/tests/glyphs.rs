@@ -5,7 +5,6 @@ use second::print::{glyphs_text, line_and_column, refusal_text};
 use second::refusal::{reason, LIST_LIMIT, TOO_LONG, WIDTH_LIST};
 use second::vectors::{self, Case};
 use second::{generate, read, Refusal, Rooms};
-use std::path::{Path, PathBuf};
 use std::process::Output;
 
 const GENERATED: u64 = 3_000;
@@ -19,16 +18,7 @@ struct Seen {
 }
 
 fn vector_cases() -> Vec<Case> {
-    let folder = Path::new(env!("CARGO_MANIFEST_DIR")).join("../vectors");
-    let entries = folder.read_dir().expect("the vectors can be listed");
-    let paths = entries.map(|entry| entry.expect("the vectors can be listed").path());
-    let is_vector = |path: &PathBuf| path.extension().is_some_and(|extension| extension == "vec");
-    paths.filter(is_vector).flat_map(|path| cases_of(&path)).collect()
-}
-
-fn cases_of(path: &Path) -> Vec<Case> {
-    let text = std::fs::read_to_string(path).expect("a vector file can be read");
-    vectors::parse(&text).unwrap_or_else(|message| panic!("{}: {message}", path.display()))
+    vectors::all_cases().expect("the vectors can be read")
 }
 
 /// The line for people, of files named `stream` and `widths`.

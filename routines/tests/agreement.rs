@@ -9,7 +9,6 @@ use second::generate::random::Random;
 use second::refusal::{Rooms, LIST_LIMIT, STREAM_LIMIT};
 use second::vectors::{self, Case, Routine, BODY_HEAD, BODY_TAIL, SAMPLE_LIST};
 use std::io::Write;
-use std::path::{Path, PathBuf};
 
 const INPUTS: u64 = 100_000;
 
@@ -25,19 +24,8 @@ fn say(line: String) {
     let _ = writeln!(std::io::stderr(), "{line}");
 }
 
-/// The vector files, in the order of their names.
-fn vector_files() -> Vec<PathBuf> {
-    let folder = Path::new(env!("CARGO_MANIFEST_DIR")).join("../vectors");
-    let entries = folder.read_dir().expect("the vectors can be listed");
-    let mut paths: Vec<PathBuf> = entries.map(|entry| entry.expect("they can be listed").path()).collect();
-    paths.retain(|path| path.extension().is_some_and(|extension| extension == "vec"));
-    paths.sort();
-    paths
-}
-
-fn cases_of(path: &Path) -> Vec<Case> {
-    let text = std::fs::read_to_string(path).expect("a vector file can be read");
-    vectors::parse(&text).unwrap_or_else(|message| panic!("{}: {message}", path.display()))
+fn vector_cases() -> Vec<Case> {
+    vectors::all_cases().expect("the vectors can be read")
 }
 
 /// Runs the checks of a case that are about a routine of the library; how many these are, and how
@@ -55,7 +43,7 @@ fn run_checks(mut case: Case) -> Result<[usize; 3], String> {
 fn vectors_hold() {
     let (mut cases, mut sums) = (0, [0; 3]);
     let mut failures = Vec::new();
-    for case in vector_files().iter().flat_map(|path| cases_of(path)) {
+    for case in vector_cases() {
         cases += 1;
         match run_checks(case) {
             Ok(counts) => (0..3).for_each(|place| sums[place] += counts[place]),
@@ -74,7 +62,7 @@ fn vectors_hold() {
 #[test]
 fn vectors_agree() {
     let mut seen = Seen::default();
-    for case in vector_files().iter().flat_map(|path| cases_of(path)) {
+    for case in vector_cases() {
         let agreed = agree::input(&case.stream, &case.list, &mut Random::new(seen.inputs), &mut seen);
         agreed.unwrap_or_else(|message| panic!("case {}: {message}", case.name));
     }
@@ -118,25 +106,6 @@ fn assert_all_seen(label: &str, seen: &Seen, least: u64) {
     assert_eq!(seen.times(12), 0, "{label}: the reader has no query");
 }
 
-/// A sound list of so many bytes: fonts with many widths, then two whose names take up the rest.
-fn list_of_length(length: usize) -> Vec<u8> {
-    let mut list = b"unitwidth=1000\n".to_vec();
-    let pairs = (b'A'..=b'Z').flat_map(|font| (33..=255).map(move |byte| (font, byte)));
-    for (font, byte) in pairs {
-        if length - list.len() < 110 {
-            break;
-        }
-        if byte == 33 {
-            list.extend([b"font=", &[font][..], b"\n"].concat());
-        }
-        list.extend(format!("byte={byte}\nwidth=1\n").bytes());
-    }
-    list.extend([b"font=", &[b'y'; 64][..], b"\n"].concat());
-    let rest = length - list.len() - b"font=\n".len();
-    list.extend([b"font=", &vec![b'z'; rest][..], b"\n"].concat());
-    list
-}
-
 /// The longest stream and the longest list are read, one of a byte more is refused before all else.
 #[test]
 fn lengths_at_the_limit() {
@@ -147,13 +116,13 @@ fn lengths_at_the_limit() {
         (answer.refusal, answer.offset)
     };
     let sample_of = |length| [SAMPLE, &vec![b'\n'; length - SAMPLE.len()]].concat();
-    let short_of_list = |length| read(b"x T a\nx r 1 1 1\nx i\nx s\n", &list_of_length(length));
+    let short_of_list = |length| read(b"x T a\nx r 1 1 1\nx i\nx s\n", &generate::list::of_length(length));
     assert_eq!([LIST_LIMIT - 1, LIST_LIMIT, LIST_LIMIT + 1].map(short_of_list), [(0, 0), (0, 0), (1, 0)]);
     let stream = sample_of(STREAM_LIMIT + 1);
     assert_eq!(read(&stream[..STREAM_LIMIT], SAMPLE_LIST), (0, 0));
     assert_eq!(read(&stream, SAMPLE_LIST), (1, 0));
     assert_eq!(read(&stream, b""), (1, 0));
-    assert_eq!(read(b"", &list_of_length(LIST_LIMIT + 1)), (1, 0));
+    assert_eq!(read(b"", &generate::list::of_length(LIST_LIMIT + 1)), (1, 0));
     assert_eq!(read(&stream[..STREAM_LIMIT], b""), (2, 0));
     assert_eq!(read(b"", SAMPLE_LIST), (11, 0));
 }

@@ -4,6 +4,7 @@
 use crate::print::{found_text, glyphs_text};
 use crate::refusal::{Refusal, Rooms};
 use crate::{find, read, respell};
+use std::path::{Path, PathBuf};
 
 /// What stands before and behind the fragment of a `body` case.
 pub const BODY_HEAD: &[u8] = b"x T ps\nx res 72000 1 1\nx init\np1\nx font 1 TR\nf1\ns10000\n";
@@ -66,6 +67,23 @@ pub struct Case {
     pub query: Option<Vec<u8>>,
     pub rooms: Rooms,
     pub checks: Vec<Check>,
+}
+
+/// The cases of every vector file of the repository, in the order of the files' names.
+pub fn all_cases() -> Result<Vec<Case>, String> {
+    let folder = Path::new(env!("CARGO_MANIFEST_DIR")).join("../vectors");
+    let listed = |error: std::io::Error| format!("{}: {error}", folder.display());
+    let entries = folder.read_dir().and_then(Iterator::collect::<Result<Vec<_>, _>>).map_err(listed)?;
+    let mut paths: Vec<PathBuf> = entries.iter().map(std::fs::DirEntry::path).collect();
+    paths.retain(|path| path.extension().is_some_and(|extension| extension == "vec"));
+    paths.sort();
+    let cases = paths.iter().map(|path| cases_of(path)).collect::<Result<Vec<_>, _>>()?;
+    Ok(cases.concat())
+}
+
+fn cases_of(path: &Path) -> Result<Vec<Case>, String> {
+    let text = std::fs::read_to_string(path).map_err(|error| format!("{}: {error}", path.display()))?;
+    parse(&text).map_err(|message| format!("{}: {message}", path.display()))
 }
 
 /// Parses a vector file. Blocks of lines `key value`, parted by blank lines.

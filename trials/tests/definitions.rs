@@ -3,8 +3,6 @@
 use second::generate;
 use second::vectors::{self, Case};
 use std::io::Write;
-use std::path::{Path, PathBuf};
-use trials::repository::project_root;
 use trials::{checks, is_within, prove, Check, Verdict};
 
 /// The bounds in bytes of a stream, a list and a query; far larger ones exceed the prover's steps.
@@ -42,19 +40,8 @@ fn agree(label: &str, mut cases: Vec<Case>, limit: usize) -> usize {
     made
 }
 
-/// The cases of every vector file, in the order of the files' names.
 fn vector_cases() -> Vec<Case> {
-    let folder = project_root().join("vectors").read_dir().expect("the vectors can be listed");
-    let mut paths: Vec<PathBuf> =
-        folder.map(|entry| entry.expect("the vectors can be listed").path()).collect();
-    paths.retain(|path| path.extension().is_some_and(|extension| extension == "vec"));
-    paths.sort();
-    paths.iter().flat_map(|path| cases_of(path)).collect()
-}
-
-fn cases_of(path: &Path) -> Vec<Case> {
-    let text = std::fs::read_to_string(path).expect("a vector file can be read");
-    vectors::parse(&text).unwrap_or_else(|message| panic!("{}: {message}", path.display()))
+    vectors::all_cases().expect("the vectors can be read")
 }
 
 fn generated_case(seed: u64) -> Case {

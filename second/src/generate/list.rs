@@ -52,3 +52,23 @@ fn some_bytes(random: &mut Random) -> Vec<u8> {
     let bytes: Vec<u8> = (0..count).map(|_| *random.pick(&GLYPH_BYTES)).collect();
     rising(&bytes)
 }
+
+/// A sound list of so many bytes, 300 to 100,000: pairs, then three fonts whose names take up the rest.
+pub fn of_length(length: usize) -> Vec<u8> {
+    let mut list = b"unitwidth=1000\n".to_vec();
+    let places = (b'A'..=b'Z').flat_map(|font| (33..=255).map(move |byte| (font, byte)));
+    for (font, byte) in places {
+        if length - list.len() < 200 {
+            break;
+        }
+        if byte == 33 {
+            list.extend([b"font=", &[font][..], b"\n"].concat());
+        }
+        list.extend(format!("byte={byte}\nwidth=1\n").bytes());
+    }
+    let rest = length - list.len() - 2 * 70 - 6;
+    for name in [vec![b'y'; 64], vec![b'z'; 64], vec![b'#'; rest]] {
+        list.extend([b"font=", &name[..], b"\n"].concat());
+    }
+    list
+}
