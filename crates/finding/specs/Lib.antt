@@ -1,1 +1,2 @@
 pub mod Occurs
+pub mod Written

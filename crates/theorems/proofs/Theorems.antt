@@ -32,9 +32,10 @@ use Rattle.printed.proofs.Trip.{placed, round-trip, bare-placed, placed-ended}
 use Rattle.finding.specs.Occurs.{QueryShape, OccursAt, Elem}
 use Rattle.finding.proofs.Exact.{hits-rise, hits-occur, occurs-hits}
 use Rattle.finding.proofs.Asked.{query-shape, shape-some}
+use Rattle.finding.proofs.Written.{written-read, read-written, query-short, names-some}
 use Rattle.scanned.proofs.Fair.{commands-good}
 use Rattle.scanned.proofs.Names.{AllRows, RowIn, RowsOf, read-stands}
-use Rattle.theorems.specs.Statements.{Accepted, glyphsIn, rowsIn, itemsIn, pagesIn, endIn, glyphPaintIn, fillPaintIn, SameReading, ReadAgain, RoundTrip, FixedPoint, Exact, Exactness, Told, refusedAt, listed, told, cmdsOf, actsOf, OneSpelling, Answered, OneByte, Roomy, Limits, ByOutline, single, ByAnyCommand, nameIn, NamesIn, NamesOf, NamesStand, Alike, Likeness}
+use Rattle.theorems.specs.Statements.{Accepted, glyphsIn, rowsIn, itemsIn, pagesIn, endIn, glyphPaintIn, fillPaintIn, SameReading, ReadAgain, RoundTrip, FixedPoint, Exact, Exactness, Told, refusedAt, listed, told, cmdsOf, actsOf, OneSpelling, Answered, QueryText, OneByte, Roomy, Limits, ByOutline, single, ByAnyCommand, nameIn, NamesIn, NamesOf, NamesStand, Alike, Likeness}
 
 -- ---- an accepted stream
 
@@ -479,6 +480,11 @@ accepted-find s list q qs h a o = find-searched s list q (sound-of s list h) ∙
 
 pub answered : Answered
 answered = record { accepted = accepted-find; refused = refused-find }
+
+-- ---- what a query's text asks
+
+pub queryText : QueryText
+queryText = record { asks = written-read; only = read-written; short = query-short; named = names-some }
 
 -- ---- enough room
 

@@ -13,11 +13,12 @@ use Rattle.rules.specs.Scan.{got, limits, command, commands, bare}
 use Rattle.rules.specs.Widths.{Widths, sound, widthList}
 use Rattle.rules.specs.State.{Spot, corner, Paint, noPaint, Env, Glyph, Item, start}
 use Rattle.rules.specs.Record.{GlyphRow, ItemRow, Answer, refuse, answer}
-use Rattle.rules.specs.Find.{Wanted, Query, wellFormed, query, hitsFrom}
+use Rattle.rules.specs.Find.{Wanted, Key, Query, wellFormed, query, hitsFrom}
 use Rattle.rules.specs.Answers.{streamMost, isOver, readWith, read, readInto, isAccepted, Spelling, notSpelled, spelled, respell, respellInto, Found, notFound, found, keyOf, findWith, find, findInto}
 use Rattle.reading.specs.Outline.{Mark, marksOf, outline}
 use Rattle.reading.specs.Kept.{unmotioned}
-use Rattle.finding.specs.Occurs.{QueryShape, OccursAt, Elem, Rising}
+use Rattle.finding.specs.Occurs.{keyAt, QueryShape, OccursAt, Elem, Rising}
+use Rattle.finding.specs.Written.{written, GoodQuery}
 
 -- "A stream is accepted where, with its width list, no reason but 13 is against it"
 abbrev pub Accepted : List ℕ → List ℕ → Type 0
@@ -131,6 +132,16 @@ pub record Answered : Type 0 where
       → find s list q ≡ found (rowsIn (read s list)) (hitsFrom qs 0 (map keyOf (rowsIn (read s list))))
   pub refused : (s list q : List ℕ) (qs : List Wanted) (n at : ℕ) → query q ≡ wellFormed qs → isOver 8_192 q ≡ false → read s list ≡ refuse n at → find s list q ≡ notFound n at
 
+-- "A query has lines `glyph=NAME` and `gap=any`, each ended by a newline: 1 to 64 glyph lines, first and last line a glyph, never two
+-- gaps together. NAME is a string of 1 to 64 bytes": what is written for good glyphs asks for these, and nothing else is well formed
+pub record QueryText : Type 0 where
+  pub asks : (qs : List Wanted) → GoodQuery qs → query (written qs) ≡ wellFormed qs
+  pub only : (q : List ℕ) (qs : List Wanted) → query q ≡ wellFormed qs → (q ≡ written qs) × GoodQuery qs
+  -- "neither 1 nor 12 is against it": where 12 is not, 1 is not
+  pub short : (q : List ℕ) (qs : List Wanted) → query q ≡ wellFormed qs → length q ≤ 8_192
+  -- "so an `N` record matches no query glyph": where the query occurs, no name is empty
+  pub named : (q : List ℕ) (qs : List Wanted) (ks : List Key) (i j : ℕ) → query q ≡ wellFormed qs → OccursAt qs ks i → j < length qs → 1 ≤ length (keyAt ks (i + j) .name)
+
 -- what the finder tells of a stream: a refusal; or the list, and how many records there are
 pub data Told : Type 0 where
   refusedAt : ℕ → ℕ → Told
@@ -201,3 +212,12 @@ pub record Limits : Type 0 where
   pub not-long-query : (s list q : List ℕ) → length s ≤ 16_777_216 → length list ≤ 65_536 → length q ≤ 8_192 → find s list q ≡ findWith s q (widthList list)
   pub text : (t : List ℕ) → length t ≤ 4_096 → limits (raw t) ≡ true ∷ []
   pub long-text : (t : List ℕ) → 4_096 < length t → limits (raw t) ≡ false ∷ []
+
+-- ---- "accept, or refuse with a number .. from the table in 01": the reader with 1 to 11, the finder with 12 too, "13 comes last"
+
+pub record Numbers : Type 0 where
+  pub read-up-to-11 : (s list : List ℕ) (n at : ℕ) → read s list ≡ refuse n at → (1 ≤ n) × (n ≤ 11)
+  pub find-up-to-12 : (s list q : List ℕ) (n at : ℕ) → find s list q ≡ notFound n at → (1 ≤ n) × (n ≤ 12)
+  pub reader : (records entries : ℕ) (s list : List ℕ) (n at : ℕ) → readInto records entries s list ≡ refuse n at → (1 ≤ n) × (n ≤ 13)
+  pub rewriter : (room : ℕ) (s list : List ℕ) (n at : ℕ) → respellInto room s list ≡ notSpelled n at → (1 ≤ n) × (n ≤ 13)
+  pub finder : (records hits : ℕ) (s list q : List ℕ) (n at : ℕ) → findInto records hits s list q ≡ notFound n at → (1 ≤ n) × (n ≤ 13)
