@@ -656,7 +656,14 @@ pub fn word_step(s: &[u8], ws: &[u32], d: Word) -> Spelt
     Spelt { row, next }
 }
 
-fn word_here(e: Environment, unitwidth: u32, track: u32, n: usize, at: usize, block: usize) -> Word
+pub fn word_here(
+    e: Environment,
+    unitwidth: u32,
+    track: u32,
+    n: usize,
+    at: usize,
+    block: usize,
+) -> Word
     requires { ⌜ Fits e × (1 ≤ unitwidth) × (unitwidth ≤ 100000) × (track < 2 * origin) ⌝ }
     requires { ⌜ (at + n ≤ 16777216) × (block ≤ 100001) ⌝ }
     ensures { λ r. ⌜ (r ≡ wordHere e unitwidth track n at block) × WordFits r ⌝ }
@@ -691,7 +698,7 @@ fn word_to(e: Environment, d: Word, h: u32) -> Did
 }
 
 // The block of the font mounted at the current position.
-fn block_now(ws: &[u32], e: Environment) -> usize
+pub fn block_now(ws: &[u32], e: Environment) -> usize
     ensures { λ r. ⌜ r ≡ blockNow (now (ws .entry)) e ⌝ }
 {
     let i = one_less(e.font);

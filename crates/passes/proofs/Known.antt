@@ -26,7 +26,7 @@ use Rattle.passes.specs.Sound.{Sound}
 
 -- ---- the names in the scratch row
 
-find-same : (list : List ℕ) (fonts : ℕ) (ws ws′ : List ℕ) → drop 256 ws′ ≡ drop 256 ws → findIn list fonts ws′ ≡ findIn list fonts ws
+pub find-same : (list : List ℕ) (fonts : ℕ) (ws ws′ : List ℕ) → drop 256 ws′ ≡ drop 256 ws → findIn list fonts ws′ ≡ findIn list fonts ws
 find-same list fonts ws ws′ h = λ i n. slotIn list (take 32 (places i)) (take 32 (lengths i)) fonts n
   where
     places : drop 8704 ws′ ≡ drop 8704 ws

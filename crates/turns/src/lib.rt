@@ -54,7 +54,7 @@ fn gone_to(
     d
 }
 
-fn skipped(n: usize, st: State, next: usize) -> Turned
+pub fn skipped(n: usize, st: State, next: usize) -> Turned
     requires { ⌜ next ≤ n ⌝ }
     ensures { λ r. ⌜ r ≡ skipped n st next ⌝ }
 {
@@ -205,7 +205,7 @@ fn mount(
 }
 
 // `x f` in the body mounts its font; other commands leave the scratch row.
-fn mounting(
+pub fn mounting(
     ws: &mut [u32],
     s: &[u8],
     list: &[u8],
@@ -254,7 +254,7 @@ fn mounting(
     }
 }
 
-fn command_at(s: &[u8], at: usize) -> Command
+pub fn command_at(s: &[u8], at: usize) -> Command
     requires { ⌜ at < length (now s) ⌝ }
     ensures { λ r. ⌜ (r ≡ commandAt (now (s .entry)) at) × CommandIn at (length (now (s .entry))) r ⌝ }
 {
@@ -271,7 +271,7 @@ fn did_at(s: &[u8], ws: &[u32], st: State, c: Command) -> Did
 }
 
 // What it does to the state.
-fn turned(s: &[u8], ws: &[u32], st: State, c: Command) -> Turned
+pub fn turned(s: &[u8], ws: &[u32], st: State, c: Command) -> Turned
     requires { ⌜ Ready (length (now s)) st × Small (now ws) × CommandIn (st .at) (length (now s)) c ⌝ }
     ensures { λ r. ⌜ r ≡ turnOn (now (s .entry)) (now (ws .entry)) st c ⌝ }
 {

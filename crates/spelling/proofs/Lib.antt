@@ -1,0 +1,5 @@
+pub mod Sheets
+pub mod Lines
+pub mod House
+pub mod Passes
+pub mod Demand
