@@ -1,0 +1,93 @@
+-- The answer of each return of a turn, in the form in which `search` applies it. Assumes nothing.
+use Prim.Native.Nat.{ℕ, _+_}
+use mathlib.Core.Bool.{Bool, true, false}
+use mathlib.Core.List.{List}
+use mathlib.Core.Path.{_≡_, sym, ap, _∙_}
+use lib.Dec.{eqb}
+use lib.ListN.{length, getD}
+use borrow.Author.Needs.{needs}
+use borrow.Author.Tests.{ne-eqb, eqb-true}
+use Rattle.rules.specs.Bytes.{isWhite, isNotNewline}
+use Rattle.laws.proofs.Cases.{on}
+use Rattle.lex.specs.At.{runEnd}
+use Rattle.command.specs.declared.Command.{Command}
+use Rattle.command.specs.View.{commandAt}
+use Rattle.reader.specs.declared.Did.{Did}
+use Rattle.reader.specs.declared.State.{State}
+use Rattle.reader.specs.declared.Turned.{Turned}
+use Rattle.reader.specs.Turns.{didAt, nextOf, scratchAfter, doneOf, skipped, turnOn, turnOf, scratchOf}
+use Rattle.turns.proofs.Turning.{command-within, here-some, command-mounts, comment-ends}
+use Rattle.spelling.specs.declared.Mark.{Mark}
+use Rattle.spelling.specs.Sheet.{putAll}
+use Rattle.spelling.specs.Spelled.{mannerOf, penH, penV, spelledAt}
+use Rattle.spelling.specs.Passes.{sheetOn, markOn, bytesOf, markOf, stepOf}
+use Rattle.written.proofs.Putting.{sheet, all-kept}
+
+-- ---- what a command has in the spelling
+
+-- where a state has no refusal, none was made
+done-none : (n : ℕ) (st : State) (next : ℕ) (d : Did) → doneOf n st next d .state .refusal ≡ 0 → d .refusal ≡ 0
+done-none n st next d h = on (eqb (d .refusal) 0) (λ z. eqb-true (d .refusal) 0 z) (λ z. rw z at h)
+
+module _ (s ws : List ℕ) (st next : State) (c : Command) where
+  pub none-refused : next ≡ turnOn s ws st c .state → next .refusal ≡ 0 → didAt s ws (st .unitwidth) (st .env) (st .at) c .refusal ≡ 0
+  none-refused e h = done-none (length s) st (nextOf c) (didAt s ws (st .unitwidth) (st .env) (st .at) c) (sym (ap (λ (x : State). x .refusal) e) ∙ h)
+
+  module _ (o : List ℕ) (m : Mark) where
+    module _ (h : next .refusal ≡ 0) (q : List ℕ) (r : Mark) (e : sheet q (r .at) ≡ putAll (spelledAt s ws (st .unitwidth) (st .env) (st .at) (next .env .h) (next .env .v) (m .h) (m .v) c) (sheet o (m .at))) where
+      pub written-mark : r .h ≡ penH s ws (st .unitwidth) (st .env) (next .env .h) (m .h) (mannerOf c) → r .v ≡ penV ws (st .unitwidth) (st .env) (next .env .v) (m .v) (mannerOf c)
+          → r ≡ markOn s ws st next c o m
+      written-mark a b = rw (h, ← e, ← a, ← b)
+
+      pub written-bytes : q ≡ sheetOn s ws st next c o m .bytes
+      written-bytes = rw (h, ← e)
+
+    module _ (h : next .refusal ≡ 0 → ⊥) where
+      pub refused-mark : m ≡ markOn s ws st next c o m
+      refused-mark = rw (ne-eqb (next .refusal) 0 h)
+
+      pub refused-bytes : o ≡ sheetOn s ws st next c o m .bytes
+      refused-bytes = rw (ne-eqb (next .refusal) 0 h)
+
+-- ---- one command
+
+pub turned-state : (s ws : List ℕ) (st : State) (c : Command) (x : Turned) → x ≡ turnOn s ws st c → x .state ≡ turnOn s ws st c .state
+turned-state s ws st c x e = rw e
+
+module _ (s ws : List ℕ) (st : State) (c : Command) (g : c ≡ commandAt s (st .at)) where
+  pub command-state : (x : Turned) → x ≡ turnOn s ws st c → x .state ≡ turnOn s ws st (commandAt s (st .at)) .state
+  command-state x e = rw (← g, e)
+
+  pub command-mark : (next : State) (o : List ℕ) (m r : Mark) → r ≡ markOn s ws st next c o m → r ≡ markOn s ws st next (commandAt s (st .at)) o m
+  command-mark next o m r e = rw (← g) e
+
+  pub command-bytes : (next : State) (o q : List ℕ) (m : Mark) → q ≡ sheetOn s ws st next c o m .bytes → q ≡ sheetOn s ws st next (commandAt s (st .at)) o m .bytes
+  command-bytes next o q m e = rw (← g) e
+
+pub skipped-state : (n next : ℕ) (st : State) (x : Turned) → x ≡ skipped n st next → x .state ≡ skipped n st next .state
+skipped-state n next st x e = rw e
+
+-- ---- a turn
+
+module _ (find : List ℕ → ℕ) (s ws : List ℕ) (st : State) (o : List ℕ) (m : Mark) (b : ℕ) (w : Bool) (e : b ≡ getD s (st .at) 0) (p : w ≡ isWhite b) (x : State) (n : Mark) where
+  pub white-step : w ≡ true → x ≡ skipped (length s) st (st .at + 1) .state → n ≡ m
+      → record { state = x; mark = n; scratch = ws; bytes = o } ≡ stepOf find s (record { state = st; mark = m; scratch = ws; bytes = o })
+  unfolding turnOf scratchOf bytesOf markOf
+  white-step h q r = rw (← e, ← p, h, q, r)
+
+  pub comment-step : (next : ℕ) → w ≡ false → b ≡ 35 → next ≡ runEnd isNotNewline s (st .at + 1) → x ≡ skipped (length s) st next .state → n ≡ m
+      → record { state = x; mark = n; scratch = ws; bytes = o } ≡ stepOf find s (record { state = st; mark = m; scratch = ws; bytes = o })
+  unfolding turnOf scratchOf bytesOf markOf runEnd
+  comment-step next h k l q r = rw (← e, ← p, h, k, q, l, r)
+
+  pub command-step : (t q : List ℕ) → w ≡ false → (b ≡ 35 → ⊥) → x ≡ turnOn s ws st (commandAt s (st .at)) .state → n ≡ markOn s ws st x (commandAt s (st .at)) o m
+      → q ≡ sheetOn s ws st x (commandAt s (st .at)) o m .bytes → t ≡ scratchAfter find s ws (st .env) (commandAt s (st .at))
+      → record { state = x; mark = n; scratch = t; bytes = q } ≡ stepOf find s (record { state = st; mark = m; scratch = ws; bytes = o })
+  unfolding turnOf scratchOf bytesOf markOf
+  command-step t q h k f i j l = rw (← e, ← p, h, ne-eqb b 35 k, l, j, i, f)
+
+pub ruleset writing = (none-refused, written-mark, written-bytes, refused-mark, refused-bytes, all-kept, needs)
+
+pub ruleset commanding = (command-within, here-some, turned-state, command-state, command-mark, command-bytes, command-mounts, skipped-state, needs)
+
+pub ruleset stepping = (here-some, comment-ends, white-step, comment-step, command-step, needs)

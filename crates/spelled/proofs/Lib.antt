@@ -1,0 +1,4 @@
+pub mod Lines
+pub mod Commands
+pub mod Letters
+pub mod Spells
