@@ -1,5 +1,5 @@
 /*
- * Mrkvandel: the proved reader of troff intermediate output, as C functions.
+ * Mrkvandel: the proved reader and finder of troff intermediate output, as C functions.
  *
  * The library is target/staticlib/libcapi.a, for x86-64 and the System V calling convention; `rt staticlib capi` proves and writes
  * it. Proved is what the functions answer and leave in the rows; the compiler behind the proof, the way into C and this header are
@@ -8,7 +8,7 @@
  * said in full by the definitions in crates/rules/specs.
  *
  * Of every function here:
- *   - An input or a row crosses as a pointer and the number of its items (of bytes, records or entries).
+ *   - An input or a row crosses as a pointer and the number of its items (of bytes, records, entries or hits).
  *   - Each pointer must be valid for that many items and aligned for them: to read for an input, to read and write for a row.
  *     None may be null, not even where the number is 0.
  *   - No row may overlap the other row or an input. The inputs may overlap each other. They are not changed.
@@ -30,14 +30,16 @@ extern "C" {
 #define MRKVANDEL_ASSERT(holds, message) _Static_assert(holds, message)
 #endif
 
-/* The most bytes of a stream and of a width list; more is refused as 1. */
+/* The most bytes of a stream, of a width list and of a query; more is refused as 1. */
 #define MRKVANDEL_STREAM_LIMIT 16777216
 #define MRKVANDEL_LIST_LIMIT 65536
+#define MRKVANDEL_QUERY_LIMIT 8192
 
 /*
  * Refusal numbers. The offset of a refusal is that of the first byte of the command at fault, counted from 0 in the stream,
  * unless it is said otherwise. A refusal with a smaller number comes first at one command; in all, 1 comes first, then 2, then 12,
- * then the first command at fault, and 13 last, when nothing else is against the inputs.
+ * then the first command at fault, and 13 last, when nothing else is against the inputs. The reader, which has no query, answers 1
+ * to 11 or 13, the finder 1 to 13.
  */
 enum {
     /* no refusal */
@@ -67,7 +69,8 @@ enum {
     MRKVANDEL_OUT_OF_REACH = 10,
     /* no `x s`; offset: the length of the stream */
     MRKVANDEL_NO_STOP = 11,
-    /* the query is wrong: no answer of the reader */
+    /* the query is wrong; offset in the query: the start of its first wrong line (one without a newline is wrong; a last gap line is
+       that line), 0 if it is empty */
     MRKVANDEL_QUERY = 12,
     /* a row is too small, or the spelling too long; offset 0 */
     MRKVANDEL_NO_ROOM = 13
@@ -109,10 +112,10 @@ typedef struct mrkvandel_colour {
 
 /* The reader's answer: 80 bytes. */
 typedef struct mrkvandel_read_result {
-    size_t offset;           /* of a refusal, see above; 0 where the stream is accepted */
+    size_t offset;           /* of a refusal, see above; 0 where nothing is refused */
     size_t records;          /* how many records were written; 0 in a refusal */
     size_t entries;          /* how many entries were written; 0 in a refusal */
-    uint32_t refusal;        /* 0 where the stream is accepted, else the number of the refusal: 1 to 11 or 13 */
+    uint32_t refusal;        /* 0 where nothing is refused, else the number of the refusal: 1 to 11 or 13 */
     uint32_t pages;          /* how many `p` the stream has; 0 in a refusal */
     int32_t h;               /* the position behind the last command; 0 in a refusal */
     int32_t v;
@@ -120,11 +123,20 @@ typedef struct mrkvandel_read_result {
     mrkvandel_colour fill;   /* the fill colour, likewise */
 } mrkvandel_read_result;
 
+/* The finder's answer: 32 bytes, the last four of them without meaning. */
+typedef struct mrkvandel_find_result {
+    size_t offset;    /* of a refusal, see above; 0 where nothing is refused */
+    size_t records;   /* how many records were written; 0 in a refusal */
+    size_t hits;      /* how many hits were written; 0 in a refusal */
+    uint32_t refusal; /* 0 where nothing is refused, else the number of the refusal: 1 to 13 */
+} mrkvandel_find_result;
+
 MRKVANDEL_ASSERT(sizeof(size_t) == 8, "the library is for x86-64");
 MRKVANDEL_ASSERT(sizeof(mrkvandel_record) == 40, "a record has 40 bytes");
 MRKVANDEL_ASSERT(sizeof(mrkvandel_entry) == 32, "an entry has 32 bytes");
 MRKVANDEL_ASSERT(sizeof(mrkvandel_colour) == 20, "a colour has 20 bytes");
 MRKVANDEL_ASSERT(sizeof(mrkvandel_read_result) == 80, "the reader's answer has 80 bytes");
+MRKVANDEL_ASSERT(sizeof(mrkvandel_find_result) == 32, "the finder's answer has 32 bytes");
 
 /*
  * Reads a stream with its width list. `records` gets one record for each glyph, `entries` one entry for each `D` or `x` command,
@@ -138,6 +150,28 @@ MRKVANDEL_ASSERT(sizeof(mrkvandel_read_result) == 80, "the reader's answer has 8
  */
 mrkvandel_read_result mrkvandel_read(const uint8_t *stream, size_t stream_len, const uint8_t *widths, size_t widths_len,
                                      mrkvandel_record *records, size_t records_len, mrkvandel_entry *entries, size_t entries_len);
+
+/*
+ * Finds a run of glyphs in a stream with its width list. `records` gets one record for each glyph, as the reader gives it; `hits`
+ * gets the number of each record at which the query occurs, counted from 0, each once and in rising order.
+ *
+ * A query has lines `glyph=NAME` and `gap=any`, each ended by a newline: 1 to 64 glyph lines, the first and the last line a glyph
+ * line, never two gap lines together. A NAME has 1 to 64 bytes, none of them a space, tab or newline.
+ * It occurs at record i where the records i, i + 1, ... are there for all its glyph lines, in their order, and
+ *   - have the same `ordinal`: a run does not cross a `p`, even if both pages carry one number;
+ *   - have the names of the lines, byte for byte: so a glyph set by `N`, which has no name, is in no run;
+ *   - have, each after the first, `gap` 1 where a gap line stands before its glyph line, else 0; the first may have either.
+ * How the records are placed, their fonts and sizes play no part. Occurrences may overlap.
+ *
+ * Accepted (refusal 0): the first `records` records and the first `hits` hits of the rows, as the answer counts them, are written;
+ * what lies behind them in the rows is unchanged. A row that is exactly full is large enough. There may be no hits.
+ * Refused: both rows are unchanged, every byte of them.
+ *
+ * There are at most as many hits as records, and a stream of n bytes has at most n records. (The latter tested, not proved.)
+ */
+mrkvandel_find_result mrkvandel_find(const uint8_t *stream, size_t stream_len, const uint8_t *widths, size_t widths_len,
+                                     const uint8_t *query, size_t query_len, mrkvandel_record *records, size_t records_len,
+                                     uint32_t *hits, size_t hits_len);
 
 #ifdef __cplusplus
 }

@@ -5,12 +5,28 @@ use Rattle.rules.specs.declared.Colour.{Colour}
 use Rattle.rules.specs.declared.ReadAnswer.{ReadAnswer}
 use Rattle.rules.specs.declared.ReadAnswer.the-variants as R
 use Rattle.rules.specs.declared.Reading.{Reading}
+use Rattle.rules.specs.declared.Finding.{Finding}
+use Rattle.rules.specs.declared.Finding.the-variants as F
 use Rattle.capi.specs.declared.ReadResult.{ReadResult}
+use Rattle.rules.specs.declared.Respelling.{Respelling}
+use Rattle.rules.specs.declared.Respelling.the-variants as S
+use Rattle.capi.specs.declared.FindResult.{FindResult}
+use Rattle.capi.specs.declared.RespellResult.{RespellResult}
 
--- refusal is 0 where the stream is accepted; all else is 0 where it has no meaning
+-- refusal is 0 where nothing is refused; all else is 0 where it has no meaning
 abbrev pub flatBy : Colour → Colour → ReadAnswer → ReadResult
 flatBy g f (R.Accepted records entries pages h v) = record { offset = 0; records = records; entries = entries; refusal = 0; pages = pages; h = h; v = v; glyph = g; fill = f }
 flatBy g f (R.Refused number offset) = record { offset = offset; records = 0; entries = 0; refusal = number; pages = 0; h = pos 0; v = pos 0; glyph = g; fill = f }
 
 abbrev pub flatOf : Reading → ReadResult
 flatOf r = flatBy (r .glyph) (r .fill) (r .answer)
+
+-- refusal is 0 where nothing is refused; all else is 0 where it has no meaning
+abbrev pub flatFinding : Finding → FindResult
+flatFinding (F.Accepted records hits) = record { offset = 0; records = records; hits = hits; refusal = 0 }
+flatFinding (F.Refused number offset) = record { offset = offset; records = 0; hits = 0; refusal = number }
+
+-- refusal is 0 where nothing is refused; all else is 0 where it has no meaning
+abbrev pub flatRespelling : Respelling → RespellResult
+flatRespelling (S.Accepted len) = record { offset = 0; len = len; refusal = 0 }
+flatRespelling (S.Refused number offset) = record { offset = offset; len = 0; refusal = number }
