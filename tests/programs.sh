@@ -1,7 +1,7 @@
 #!/usr/bin/env bash
 # The programs, as `rt ci` left them in target/bin, under a stack of 8 MiB. Each folder PROGRAM-CASE of programs/ has the words a program
 # is run with, one to a line (`args`), the files that they name, and what it must write on standard output and standard error (no file:
-# nothing). The large cases are made here; the one that is accepted is held to what the second program prints.
+# nothing). The large cases are made here; those that are accepted are held to what the second program prints.
 # A program of the kit has no exit status of its own: 0 says only that it did not crash.
 set -u
 cd "$(dirname "$0")/.." || exit 2
@@ -48,36 +48,66 @@ for folder in "$root"/tests/programs/*/; do
     count "$name" "$said"
 done
 
-# The largest stream that `glyphs` takes, 1 MiB with 65,536 records and 65,536 entries; one record more; one byte more; a full disk.
+# The largest stream that the programs take, 1 MiB with 65,536 records, as many entries and, for `find`, as many hits; one record more;
+# one byte more; a full disk.
 repeat() { yes "$1" | head -n "$2"; }
 head='x T ps\nx res 72000 1 1\nx init\np1\nx font 1 TR\nf1\ns10000\n'
 large="$work/large"
 mkdir "$large"
-cp tests/programs/glyphs-sample/widths "$large/widths"
+cp tests/programs/glyphs-sample/{stream,widths} "$large"
+echo 'glyph=a' > "$large/query"
 { printf "$head"; repeat h5ca 65536; repeat 'Dt 5' 65531; } > "$large/most"
 printf '#%*s\nx stop\n' "$((1048576 - $(wc -c < "$large/most") - 9))" '' >> "$large/most"
 { printf "$head"; repeat h5ca 65537; echo 'x stop'; } > "$large/records"
 { cat "$large/most"; echo; } > "$large/bytes"
 reason='records, entries, hits or spelling need more room than lent, or the spelling is over 16,777,216 bytes'
-(cd "$large" && "$second" glyphs most widths) > "$work/most"
 echo 'refused 13 0' > "$work/records"
 echo "records: line 1, column 1: $reason" > "$work/records-said"
 echo 'bytes: over 1,048,576 bytes, more than this program takes' > "$work/bytes-said"
-if [ "$(wc -c < "$large/most")" -eq 1048576 ] && [ -s "$work/most" ]; then
-    run glyphs "$large" "$work/most" "$work/nothing" most widths
-else
-    said="the case is not made"
-fi
-count glyphs-most "$said"
-run glyphs "$large" "$work/records" "$work/records-said" records widths
-count glyphs-a-record-too-many "$said"
-run glyphs "$large" "$work/nothing" "$work/bytes-said" bytes widths
-count glyphs-a-byte-too-many "$said"
-if [ -w /dev/full ]; then
-    said=$( (cd "$large" && "$root/target/bin/glyphs" most widths 2>&1 > /dev/full) )
-    case $said in 'standard output: '*) said= ;; *) said="a full disk is not told: $said" ;; esac
-    count glyphs-full-disk "$said"
-fi
+
+large_cases() { # PROGRAM LAST-LINE-OF-THE-LARGEST WORDS-BEHIND-THE-STREAM...
+    local program=$1 last=$2
+    shift 2
+    (cd "$large" && "$second" "$program" most "$@") > "$work/most"
+    if [ "$(wc -c < "$large/most")" -eq 1048576 ] && [ "$(tail -n 1 "$work/most")" = "$last" ]; then
+        run "$program" "$large" "$work/most" "$work/nothing" most "$@"
+    else
+        said="the case is not made"
+    fi
+    count "$program-most" "$said"
+    run "$program" "$large" "$work/records" "$work/records-said" records "$@"
+    count "$program-a-record-too-many" "$said"
+    run "$program" "$large" "$work/nothing" "$work/bytes-said" bytes "$@"
+    count "$program-a-byte-too-many" "$said"
+    if [ -w /dev/full ]; then
+        said=$( (cd "$large" && "$root/target/bin/$program" most "$@" 2>&1 > /dev/full) )
+        case $said in 'standard output: '*) said= ;; *) said="a full disk is not told: $said" ;; esac
+        count "$program-full-disk" "$said"
+    fi
+}
+
+large_cases glyphs 'end 65536 65536 1 327680 0 d 0 0 0 0 d 0 0 0 0' widths
+large_cases find 'found 65536 65536' widths query
+
+# A query of 8,192 bytes is read, one of a byte more is 1; a list of 65,537 bytes is 1 too, and is named first.
+newlines() { head -c "$1" /dev/zero | tr '\0' '\n'; }
+newlines 8192 > "$large/query-most"
+newlines 8193 > "$large/query-long"
+newlines 65537 > "$large/widths-long"
+reason='the stream is over 16,777,216 bytes, the list over 65,536 or the query over 8,192'
+echo 'refused 12 0' > "$work/wrong"
+echo 'refused 1 0' > "$work/long"
+echo 'query-most: line 1, column 1: wrong line in the query, or an empty query' > "$work/wrong-said"
+echo "query-long: line 1, column 1: $reason" > "$work/long-said"
+echo "widths-long: line 1, column 1: $reason" > "$work/list-said"
+run find "$large" "$work/wrong" "$work/wrong-said" stream widths query-most
+count find-a-query-of-8192-bytes "$said"
+run find "$large" "$work/long" "$work/long-said" stream widths query-long
+count find-a-query-of-8193-bytes "$said"
+run find "$large" "$work/long" "$work/list-said" stream widths-long query-long
+count find-a-long-list-and-query "$said"
+run glyphs "$large" "$work/long" "$work/list-said" stream widths-long
+count glyphs-a-long-list "$said"
 
 echo "$passed passed, $failed failed"
 [ "$failed" -eq 0 ]

@@ -1,11 +1,42 @@
-//! A proved program, run on files.
+//! The proved programs, run on files and held to the second program.
 
+use second::print::{line_and_column, refusal_text};
+use second::refusal::{reason, LIST_LIMIT, QUERY, QUERY_LIMIT, STREAM_LIMIT, TOO_LONG, WIDTH_LIST};
+use second::{Refusal, Rooms};
+use std::collections::BTreeMap;
 use std::path::{Path, PathBuf};
 use std::process::{Command, Output};
 
-/// The longest stream that `glyphs` takes, and its room for records and entries.
+/// The longest stream that the programs take, and their room for records, entries and hits.
 pub const STREAM_MOST: usize = 1_048_576;
 pub const ROOM: usize = 65_536;
+
+/// The rooms of the programs.
+pub fn rooms() -> Rooms {
+    Rooms { records: ROOM, entries: ROOM, hits: ROOM, ..Rooms::default() }
+}
+
+/// A file's name and bytes.
+pub type File<'a> = (&'a str, &'a [u8]);
+
+/// How many cases were accepted, how many refused under each number, and how many had a stream
+/// longer than the programs take.
+#[derive(Debug, Default)]
+pub struct Seen {
+    pub accepted: usize,
+    pub refused: BTreeMap<u8, usize>,
+    pub longer: usize,
+}
+
+impl Seen {
+    pub fn refusals(&self) -> usize {
+        self.refused.values().sum()
+    }
+
+    pub fn refusals_of(&self, number: u8) -> usize {
+        self.refused.get(&number).copied().unwrap_or_default()
+    }
+}
 
 /// A program, and a folder of its own for the files it is run on.
 pub struct Runner {
@@ -14,23 +45,69 @@ pub struct Runner {
 }
 
 impl Runner {
-    /// The program of that name in `target/bin`, with the folder `target/programs/LABEL`.
+    /// The program of that name in `target/bin`, with the folder `target/programs/NAME-LABEL`.
     pub fn new(name: &str, label: &str) -> Runner {
         let target = Path::new(env!("CARGO_MANIFEST_DIR")).join("../target");
         let program = target.join("bin").join(name);
         assert!(program.is_file(), "target/bin/{name} is missing: run `rt check {name}` first");
         let program = program.canonicalize().expect("the program has a path");
-        let folder = target.join("programs").join(label);
+        let folder = target.join("programs").join(format!("{name}-{label}"));
         std::fs::create_dir_all(&folder).expect("a folder for the files can be made");
         Runner { program, folder }
     }
 
+    /// Runs the program on the files of a case, the stream first, and holds both its outputs to
+    /// what the second program answers.
+    pub fn compare(&self, label: &str, files: &[File], expected: Result<Vec<u8>, Refusal>, seen: &mut Seen) {
+        let output = self.run(files);
+        assert_eq!(output.status.code(), Some(0), "{label}: crashed");
+        if files[0].1.len() > STREAM_MOST {
+            seen.longer += 1;
+            let said = format!("{}: over 1,048,576 bytes, more than this program takes\n", files[0].0);
+            return assert_wrote(label, &output, b"", &said);
+        }
+        match expected {
+            Ok(text) => {
+                seen.accepted += 1;
+                assert_wrote(label, &output, &text, "");
+            }
+            Err(refusal) => {
+                *seen.refused.entry(refusal.number).or_default() += 1;
+                assert_wrote(label, &output, &refusal_text(refusal), &line_for_people(refusal, files));
+            }
+        }
+    }
+
     /// Runs the program in its folder on files of these names and bytes.
-    pub fn run(&self, files: &[(&str, &[u8])]) -> Output {
+    fn run(&self, files: &[File]) -> Output {
         for (name, bytes) in files {
             std::fs::write(self.folder.join(name), bytes).expect("a file can be written");
         }
         let names = files.iter().map(|(name, _)| name);
         Command::new(&self.program).args(names).current_dir(&self.folder).output().expect("the program runs")
     }
+}
+
+fn assert_wrote(label: &str, output: &Output, text: &[u8], said: &str) {
+    assert!(output.stdout == text, "{label}: standard output differs");
+    assert_eq!(String::from_utf8_lossy(&output.stderr), said, "{label}: standard error");
+}
+
+/// The line for people about a refusal of a stream, a list and, for the finder, a query.
+fn line_for_people(refusal: Refusal, files: &[File]) -> String {
+    let (name, bytes) = match refusal.number {
+        TOO_LONG => too_long(files),
+        WIDTH_LIST => files[1],
+        QUERY => files[2],
+        _ => files[0],
+    };
+    let (line, column) = line_and_column(bytes, refusal.offset);
+    format!("{name}: line {line}, column {column}: {}\n", reason(refusal.number))
+}
+
+/// The first file over its limit.
+fn too_long<'a>(files: &[File<'a>]) -> File<'a> {
+    let limits = [STREAM_LIMIT, LIST_LIMIT, QUERY_LIMIT];
+    let mut sized = files.iter().zip(limits);
+    sized.find(|((_, bytes), limit)| bytes.len() > *limit).map_or(files[0], |(file, _)| *file)
 }

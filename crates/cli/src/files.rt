@@ -1,4 +1,5 @@
-// Whole files.
+// The words of the command line, and whole files.
+use crate::people::say;
 ghost use Prim.Native.Nat.{_≤_};
 ghost use lib.ListN.{length};
 ghost use Rattle.io.specs.Counts.{Counts};
@@ -7,6 +8,40 @@ ghost use Rattle.io.specs.Counts.{Counts};
 pub struct Loaded {
     pub n: usize,
     pub good: bool,
+}
+
+// The longest stream that the programs take, which fits a stack of 8 MiB, and the room to see a longer one.
+pub const STREAM_MOST: usize = 1048576;
+
+pub const STREAM_ROOM: usize = 1048577;
+
+// One byte more than a width list may have.
+pub const LIST_ROOM: usize = 65537;
+
+// Word i of the command line, at the start of the buffer; where there is none, or a longer one, that is said under the given name.
+pub fn word(i: usize, buf: &mut [u8], name: &[u8]) -> Loaded
+    ensures { λ r. ⌜ Counts (r .n) (now (buf .exit)) ⌝ }
+{
+    let n = os::arg(i, buf);
+    let good = os::errno() == 0;
+    if !good {
+        os::fail(name);
+    }
+    Loaded { n: n, good: good }
+}
+
+// A stream, as `load`; a longer one than the programs take is no good.
+pub fn load_stream(path: &[u8], buf: &mut [u8]) -> Loaded
+    ensures { λ r. ⌜ Counts (r .n) (now (buf .exit)) ⌝ }
+{
+    let got = load(path, buf);
+    let n = got.n;
+    if n <= STREAM_MOST {
+        return got;
+    }
+    say(path);
+    say(b": over 1,048,576 bytes, more than this program takes\n");
+    Loaded { n: n, good: false }
 }
 
 // Reads the file into the buffer until either ends. What fails is said on standard error.

@@ -1,11 +1,28 @@
 // Lines for people, on standard error.
 ghost use Prim.Native.Nat.{_+_, _^_, _<_, _≤_};
+use crate::files::LIST_ROOM;
 use crate::text::put_all;
 use crate::text::put_number;
 use libc::STDERR_FILENO;
 
 pub fn say(text: &[u8]) {
     io::write_all(STDERR_FILENO, text);
+}
+
+// A refusal of a stream with its width list: the line is about the list where that is wrong or too long.
+pub fn refused_either(
+    stream: &[u8],
+    widths: &[u8],
+    s: &[u8],
+    list: &[u8],
+    number: u32,
+    offset: usize,
+) {
+    if number == 2 || number == 1 && list.len() == LIST_ROOM {
+        refused(widths, list, number, offset);
+    } else {
+        refused(stream, s, number, offset);
+    }
 }
 
 // `PATH: line L, column C: REASON`, of an offset in the bytes of the file at that path.

@@ -75,6 +75,14 @@ pub fn signed_field(line: &mut [u8], at: usize, n: i32) -> usize {
     put_signed(line, to, n)
 }
 
+// `refused NUMBER OFFSET`
+pub fn put_refusal(line: &mut [u8], number: u32, offset: usize) -> usize {
+    let a = put_all(line, 0, b"refused");
+    let a = short_field(line, a, number);
+    let a = field(line, a, offset as u64);
+    put(line, a, b'\n')
+}
+
 // A letter by its byte; 0 is none.
 pub fn put_letter(line: &mut [u8], at: usize, byte: u32) -> usize {
     if byte == 0 {

@@ -6,6 +6,7 @@ use cli::text::put;
 use cli::text::put_all;
 use cli::text::put_letter;
 use cli::text::put_part;
+use cli::text::put_refusal;
 use cli::text::short_field;
 use cli::text::signed_field;
 use rules::Colour;
@@ -108,12 +109,7 @@ fn put_last(line: &mut [u8], reading: Reading) -> usize {
             let a = put_colour(line, a, reading.fill);
             put(line, a, b'\n')
         }
-        ReadAnswer::Refused { number, offset } => {
-            let a = put_all(line, 0, b"refused");
-            let a = short_field(line, a, number);
-            let a = field(line, a, offset as u64);
-            put(line, a, b'\n')
-        }
+        ReadAnswer::Refused { number, offset } => put_refusal(line, number, offset),
     }
 }
 

@@ -3,14 +3,17 @@ use crate::lines::entry_line;
 use crate::lines::last_line;
 use crate::lines::record_line;
 use cli::out::Out;
+use cli::row::least;
+use cli::row::no_record;
 use rules::Entry;
 use rules::ReadAnswer;
 use rules::Reading;
 use rules::Record;
 ghost use mathlib.Core.Path.{_≡_};
-ghost use Prim.Native.Nat.{_<_, _≤_};
+ghost use Prim.Native.Nat.{_<_};
 ghost use lib.ListN.{length, getD};
-ghost use Rattle.glyphs.specs.Blank.{blankRecord, blankEntry};
+ghost use Rattle.cli.specs.Blank.{blankRecord};
+ghost use Rattle.glyphs.specs.Blank.{blankEntry};
 
 // The answer that was printed, and whether all of it was written.
 pub struct Shown {
@@ -89,12 +92,6 @@ fn entry_count(reading: Reading) -> usize {
     }
 }
 
-fn least(a: usize, b: usize) -> usize
-    ensures { λ r. ⌜ r ≤ b ⌝ }
-{
-    if a < b { a } else { b }
-}
-
 fn get_record(row: &[Record], i: usize) -> Record
     requires { ⌜ i < length (now row) ⌝ }
     ensures { λ r. ⌜ r ≡ getD (now (row .entry)) i blankRecord ⌝ }
@@ -107,23 +104,6 @@ fn get_entry(row: &[Entry], i: usize) -> Entry
     ensures { λ r. ⌜ r ≡ getD (now (row .entry)) i blankEntry ⌝ }
 {
     row[i]
-}
-
-fn no_record() -> Record
-    ensures { λ r. ⌜ r ≡ blankRecord ⌝ }
-{
-    Record {
-        ordinal: 0,
-        page: 0,
-        h: 0,
-        v: 0,
-        font: 0,
-        size: 0,
-        place: 0,
-        len: 0,
-        index: 0,
-        gap: 0,
-    }
 }
 
 fn no_entry() -> Entry

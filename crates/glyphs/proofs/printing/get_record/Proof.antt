@@ -3,7 +3,7 @@
 use contract.Running.{givenOf, tables, tablesOf}
 use denote.Triple.Spec.{tripleOf}
 use denote.Triple.Table.{entered}
-use Rattle.glyphs.specs.Blank.{blankRecord}
+use Rattle.cli.specs.Blank.{blankRecord}
 use Rattle.rules.proofs.Record as T
 use Rattle.rules.proofs.Record.Laws as T′
 use Rattle.rowkit.proofs.Access.{get-meets}

@@ -52,11 +52,11 @@ use Rattle.cli.proofs.out.Out.Laws as TO′
 use Rattle.glyphs.specs.Blank.{blankEntry}
 use Rattle.rowkit.proofs.Rows.{refAt, asks}
 use Rattle.rowkit.proofs.Turns.{Again, by-turns}
-use Rattle.glyphs.proofs.Silent.{silent, unsaid}
-use Rattle.glyphs.proofs.printing.least as least
-use Rattle.glyphs.proofs.printing.least.Symbol as least-def
-use Rattle.glyphs.proofs.printing.least.Symbol.{name as #glyphs·printing·least}
-use Rattle.glyphs.proofs.printing.least.Met as least-thm
+use Rattle.cli.proofs.Silent.{silent, unsaid}
+use Rattle.cli.proofs.row.least as least
+use Rattle.cli.proofs.row.least.Symbol as least-def
+use Rattle.cli.proofs.row.least.Symbol.{name as #cli·row·least}
+use Rattle.cli.proofs.row.least.Met as least-thm
 use Rattle.glyphs.proofs.printing.get_entry as get-entry
 use Rattle.glyphs.proofs.printing.get_entry.Symbol as get-entry-def
 use Rattle.glyphs.proofs.printing.get_entry.Symbol.{name as #glyphs·printing·get-entry}
@@ -152,7 +152,7 @@ module _ {M : Type 1} (𝓤 : URA M) (H : Heap 𝓤) (A : Atoms 𝓤) (W : Given
   goes-line r o =
       qed W (‵ (TE.the-row .own r (gv r ∷ [])) ∷ ‵ (TO.the-row .own o (ov o ∷ [])) ∷ []) ∵ nothing ! $ move ! (2 ∷ 0 ∷ []) $ fjoin ! $ move ! (1 ∷ 0 ∷ []) $ fjoin ! $ nothing ! $ join ! $ frame ! $ done !
 
-  module _ (𝓣 : Tables 𝓤 H) (known-least : Triple 𝓤 (𝓣 .C #glyphs·printing·least) (Least 𝓤 H A mem run)) (known-get : Triple 𝓤 (𝓣 .C #glyphs·printing·get-entry) (Get 𝓤 H A mem run)) (known-line : Triple 𝓤 (𝓣 .C #glyphs·lines·entry-line) (Line 𝓤 H A mem run))
+  module _ (𝓣 : Tables 𝓤 H) (known-least : Triple 𝓤 (𝓣 .C #cli·row·least) (Least 𝓤 H A mem run)) (known-get : Triple 𝓤 (𝓣 .C #glyphs·printing·get-entry) (Get 𝓤 H A mem run)) (known-line : Triple 𝓤 (𝓣 .C #glyphs·lines·entry-line) (Line 𝓤 H A mem run))
       (r-fits : length rs < 2 ^ 64) (n-fits : n < 2 ^ 64) (is₁ : Is TO.the-row o₁ (ov o₁ ∷ [])) where
     abbrev C : Calls 𝓤 H
     C = 𝓣 .C
@@ -260,7 +260,7 @@ module _ {M : Type 1} (𝓤 : URA M) (H : Heap 𝓤) (A : Atoms 𝓤) (W : Given
         starts m (im .1) m-in l₀ l₁ l₂ l₃ l₄ l₅ l₆ l₇ l₈ l₉ o₁ is₁))))))))))))
 
 module _ {M : Type 1} (𝓤 : URA M) (H : Heap 𝓤) (A : Atoms 𝓤) (W : Given 𝓤 H A) (mem : Memory → SProp 𝓤) (run : Routine → Fun 𝓤) (𝓣 : Tables 𝓤 H)
-    (known-least : Triple 𝓤 (𝓣 .C #glyphs·printing·least) (Least 𝓤 H A mem run)) (known-get : Triple 𝓤 (𝓣 .C #glyphs·printing·get-entry) (Get 𝓤 H A mem run)) (known-line : Triple 𝓤 (𝓣 .C #glyphs·lines·entry-line) (Line 𝓤 H A mem run)) where
+    (known-least : Triple 𝓤 (𝓣 .C #cli·row·least) (Least 𝓤 H A mem run)) (known-get : Triple 𝓤 (𝓣 .C #glyphs·printing·get-entry) (Get 𝓤 H A mem run)) (known-line : Triple 𝓤 (𝓣 .C #glyphs·lines·entry-line) (Line 𝓤 H A mem run)) where
   walks : Walks 𝓤 H A f.ended stayed (WpFn 𝓤 H (𝓣 .C) (𝓣 .Λ) code.function) (f.clauses 𝓤 H A mem run)
   walks = walked 𝓤 H A f.ended stayed (f.clauses 𝓤 H A mem run) (WpFn 𝓤 H (𝓣 .C) (𝓣 .Λ) code.function)
       (λ κs. (slice-vals, (uint-vals w64, (LL.vals TO.the-type TO′.the-laws, tt)))) (λ κs. (shr-slice-tells (named 0) (κs .0) TE.the-row, (uint-tells w64, (LL.tells TO.the-type TO′.the-laws, tt))))
@@ -278,6 +278,6 @@ print-entries-spec 𝓤 H 𝓜 𝓖 𝓡 =
     entered 𝓤 H (tripleOf 𝓤 H (𝓖 .A) f.signature (f.spec 𝓤 H (𝓖 .A) (𝓜 .mem) (𝓡 .run)))
     (tables 𝓤 H 𝓜 𝓡 code.env .C) (tables 𝓤 H 𝓜 𝓡 code.env .Λ) #glyphs·printing·print-entries code.function (code.unfolded 𝓤 H 𝓜 𝓡)
     (meets 𝓤 H (𝓖 .A) (givenOf 𝓤 H 𝓜 𝓖) (𝓜 .mem) (𝓡 .run) (tablesOf 𝓤 H 𝓜 (tables 𝓤 H 𝓜 𝓡 code.env))
-    (cited 𝓤 H (Least 𝓤 H (𝓖 .A) (𝓜 .mem) (𝓡 .run)) 𝓜 𝓡 code.env #glyphs·printing·least least-def.routine code.calls-glyphs·printing·least (least-thm.met 𝓤 H 𝓜 𝓖 𝓡))
+    (cited 𝓤 H (Least 𝓤 H (𝓖 .A) (𝓜 .mem) (𝓡 .run)) 𝓜 𝓡 code.env #cli·row·least least-def.routine code.calls-cli·row·least (least-thm.met 𝓤 H 𝓜 𝓖 𝓡))
     (cited 𝓤 H (Get 𝓤 H (𝓖 .A) (𝓜 .mem) (𝓡 .run)) 𝓜 𝓡 code.env #glyphs·printing·get-entry get-entry-def.routine code.calls-glyphs·printing·get-entry (get-entry-thm.met 𝓤 H 𝓜 𝓖 𝓡))
     (cited 𝓤 H (Line 𝓤 H (𝓖 .A) (𝓜 .mem) (𝓡 .run)) 𝓜 𝓡 code.env #glyphs·lines·entry-line entry-line-def.routine code.calls-glyphs·lines·entry-line (entry-line-thm.met 𝓤 H 𝓜 𝓖 𝓡)))

@@ -49,18 +49,18 @@ use Rattle.rules.proofs.Record.Laws as TR′
 use Rattle.cli.specs.declared.out.Out.{Out}
 use Rattle.cli.proofs.out.Out as TO
 use Rattle.cli.proofs.out.Out.Laws as TO′
-use Rattle.glyphs.specs.Blank.{blankRecord}
+use Rattle.cli.specs.Blank.{blankRecord}
 use Rattle.rowkit.proofs.Rows.{refAt, asks}
 use Rattle.rowkit.proofs.Turns.{Again, by-turns}
-use Rattle.glyphs.proofs.Silent.{silent, unsaid}
+use Rattle.cli.proofs.Silent.{silent, unsaid}
 use Rattle.cli.proofs.out.start as start
 use Rattle.cli.proofs.out.start.Symbol as start-def
 use Rattle.cli.proofs.out.start.Symbol.{name as #cli·out·start}
 use Rattle.cli.proofs.out.start.Met as start-thm
-use Rattle.glyphs.proofs.printing.least as least
-use Rattle.glyphs.proofs.printing.least.Symbol as least-def
-use Rattle.glyphs.proofs.printing.least.Symbol.{name as #glyphs·printing·least}
-use Rattle.glyphs.proofs.printing.least.Met as least-thm
+use Rattle.cli.proofs.row.least as least
+use Rattle.cli.proofs.row.least.Symbol as least-def
+use Rattle.cli.proofs.row.least.Symbol.{name as #cli·row·least}
+use Rattle.cli.proofs.row.least.Met as least-thm
 use Rattle.glyphs.proofs.printing.get_record as get-record
 use Rattle.glyphs.proofs.printing.get_record.Symbol as get-record-def
 use Rattle.glyphs.proofs.printing.get_record.Symbol.{name as #glyphs·printing·get-record}
@@ -176,7 +176,7 @@ module _ {M : Type 1} (𝓤 : URA M) (H : Heap 𝓤) (A : Atoms 𝓤) (W : Given
       qed W ((‵ (flft κ₁ q₁) ⊛ ‵ Str) ∷ ‵ (TR.the-row .own r (gv r ∷ [])) ∷ ‵ (TO.the-row .own o (ov o ∷ [])) ∷ []) ∵ suffices ! _ (silent 𝓤 _) $ split ! $ nothing ! $ move ! (1 ∷ 0 ∷ []) $ join ! $ frame ! $
       nothing ! $ move ! (3 ∷ 0 ∷ []) $ fjoin ! $ move ! (2 ∷ 0 ∷ []) $ fjoin ! $ move ! (1 ∷ 0 ∷ []) $ fjoin ! $ done !
 
-  module _ (𝓣 : Tables 𝓤 H) (known-start : Triple 𝓤 (𝓣 .C #cli·out·start) (Starts 𝓤 H A mem run)) (known-least : Triple 𝓤 (𝓣 .C #glyphs·printing·least) (Least 𝓤 H A mem run)) (known-get : Triple 𝓤 (𝓣 .C #glyphs·printing·get-record) (Get 𝓤 H A mem run)) (known-line : Triple 𝓤 (𝓣 .C #glyphs·lines·record-line) (Line 𝓤 H A mem run))
+  module _ (𝓣 : Tables 𝓤 H) (known-start : Triple 𝓤 (𝓣 .C #cli·out·start) (Starts 𝓤 H A mem run)) (known-least : Triple 𝓤 (𝓣 .C #cli·row·least) (Least 𝓤 H A mem run)) (known-get : Triple 𝓤 (𝓣 .C #glyphs·printing·get-record) (Get 𝓤 H A mem run)) (known-line : Triple 𝓤 (𝓣 .C #glyphs·lines·record-line) (Line 𝓤 H A mem run))
       (r-fits : length rs < 2 ^ 64) (s-fits : length ss < 2 ^ 64) (n-fits : n < 2 ^ 64) where
     abbrev C : Calls 𝓤 H
     C = 𝓣 .C
@@ -290,7 +290,7 @@ module _ {M : Type 1} (𝓤 : URA M) (H : Heap 𝓤) (A : Atoms 𝓤) (W : Given
         starts m (im .1) m-in l₀ l₁ l₂ l₃ l₄ l₅ l₆ l₇ l₈ l₉ o (subst (Is TO.the-row o) (LL.tells TO.the-type TO′.the-laws o _ is) is)))))))))))))))
 
 module _ {M : Type 1} (𝓤 : URA M) (H : Heap 𝓤) (A : Atoms 𝓤) (W : Given 𝓤 H A) (mem : Memory → SProp 𝓤) (run : Routine → Fun 𝓤) (𝓣 : Tables 𝓤 H)
-    (known-start : Triple 𝓤 (𝓣 .C #cli·out·start) (Starts 𝓤 H A mem run)) (known-least : Triple 𝓤 (𝓣 .C #glyphs·printing·least) (Least 𝓤 H A mem run)) (known-get : Triple 𝓤 (𝓣 .C #glyphs·printing·get-record) (Get 𝓤 H A mem run)) (known-line : Triple 𝓤 (𝓣 .C #glyphs·lines·record-line) (Line 𝓤 H A mem run)) where
+    (known-start : Triple 𝓤 (𝓣 .C #cli·out·start) (Starts 𝓤 H A mem run)) (known-least : Triple 𝓤 (𝓣 .C #cli·row·least) (Least 𝓤 H A mem run)) (known-get : Triple 𝓤 (𝓣 .C #glyphs·printing·get-record) (Get 𝓤 H A mem run)) (known-line : Triple 𝓤 (𝓣 .C #glyphs·lines·record-line) (Line 𝓤 H A mem run)) where
   walks : Walks 𝓤 H A f.ended stayed (WpFn 𝓤 H (𝓣 .C) (𝓣 .Λ) code.function) (f.clauses 𝓤 H A mem run)
   walks = walked 𝓤 H A f.ended stayed (f.clauses 𝓤 H A mem run) (WpFn 𝓤 H (𝓣 .C) (𝓣 .Λ) code.function)
       (λ κs. (slice-vals, (slice-vals, (uint-vals w64, tt)))) (λ κs. (shr-slice-tells (named 0) (κs .0) TR.the-row, (shr-slice-tells (named 1) (κs .1 .0) u8, (uint-tells w64, tt))))
@@ -310,6 +310,6 @@ print-records-spec 𝓤 H 𝓜 𝓖 𝓡 =
     (tables 𝓤 H 𝓜 𝓡 code.env .C) (tables 𝓤 H 𝓜 𝓡 code.env .Λ) #glyphs·printing·print-records code.function (code.unfolded 𝓤 H 𝓜 𝓡)
     (meets 𝓤 H (𝓖 .A) (givenOf 𝓤 H 𝓜 𝓖) (𝓜 .mem) (𝓡 .run) (tablesOf 𝓤 H 𝓜 (tables 𝓤 H 𝓜 𝓡 code.env))
     (cited 𝓤 H (Starts 𝓤 H (𝓖 .A) (𝓜 .mem) (𝓡 .run)) 𝓜 𝓡 code.env #cli·out·start start-def.routine code.calls-cli·out·start (start-thm.met 𝓤 H 𝓜 𝓖 𝓡))
-    (cited 𝓤 H (Least 𝓤 H (𝓖 .A) (𝓜 .mem) (𝓡 .run)) 𝓜 𝓡 code.env #glyphs·printing·least least-def.routine code.calls-glyphs·printing·least (least-thm.met 𝓤 H 𝓜 𝓖 𝓡))
+    (cited 𝓤 H (Least 𝓤 H (𝓖 .A) (𝓜 .mem) (𝓡 .run)) 𝓜 𝓡 code.env #cli·row·least least-def.routine code.calls-cli·row·least (least-thm.met 𝓤 H 𝓜 𝓖 𝓡))
     (cited 𝓤 H (Get 𝓤 H (𝓖 .A) (𝓜 .mem) (𝓡 .run)) 𝓜 𝓡 code.env #glyphs·printing·get-record get-record-def.routine code.calls-glyphs·printing·get-record (get-record-thm.met 𝓤 H 𝓜 𝓖 𝓡))
     (cited 𝓤 H (Line 𝓤 H (𝓖 .A) (𝓜 .mem) (𝓡 .run)) 𝓜 𝓡 code.env #glyphs·lines·record-line record-line-def.routine code.calls-glyphs·lines·record-line (record-line-thm.met 𝓤 H 𝓜 𝓖 𝓡)))
