@@ -1,26 +1,30 @@
 //! What the second program answers, and what it puts into the rows, in the library's structs.
 
-use crate::{Colour, Entry, ReadResult, Record};
+use crate::{Colour, Entry, FindResult, ReadResult, Record, Search};
 use second::refusal::{Refusal, Rooms};
-use second::Reading;
+use second::{Found, Reading};
 
-/// An answer and what the rows must hold from their start; behind it they are as before.
+/// An answer and what the rows must hold from their start; behind it they are as before. The other
+/// row holds entries (the reader's) or hits (the finder's).
 #[derive(Clone, Debug, PartialEq, Eq)]
-pub struct Expected {
-    pub answer: ReadResult,
+pub struct Expected<A, T> {
+    pub answer: A,
     pub records: Vec<Record>,
-    pub entries: Vec<Entry>,
+    pub others: Vec<T>,
 }
 
+pub type ExpectedReading = Expected<ReadResult, Entry>;
+pub type ExpectedFinding = Expected<FindResult, u32>;
+
 /// The reader, for rows of the lengths that `rooms` says.
-pub fn read(stream: &[u8], list: &[u8], rooms: Rooms) -> Expected {
+pub fn read(stream: &[u8], list: &[u8], rooms: Rooms) -> ExpectedReading {
     match second::read(stream, list, rooms) {
         Ok(reading) => accepted(&reading),
         Err(refusal) => refused(refusal),
     }
 }
 
-fn accepted(reading: &Reading) -> Expected {
+fn accepted(reading: &Reading) -> ExpectedReading {
     let answer = ReadResult {
         offset: 0,
         records: reading.records.len(),
@@ -33,11 +37,11 @@ fn accepted(reading: &Reading) -> Expected {
         fill: colour(reading.fill_colour),
     };
     let records = reading.records.iter().map(record).collect();
-    Expected { answer, records, entries: reading.entries.iter().map(entry).collect() }
+    Expected { answer, records, others: reading.entries.iter().map(entry).collect() }
 }
 
 /// All but number and offset is as before the first command.
-fn refused(refusal: Refusal) -> Expected {
+fn refused(refusal: Refusal) -> ExpectedReading {
     let start = colour(second::Colour::DEFAULT);
     let answer = ReadResult {
         offset: refusal.offset,
@@ -46,7 +50,26 @@ fn refused(refusal: Refusal) -> Expected {
         fill: start,
         ..ReadResult::default()
     };
-    Expected { answer, records: Vec::new(), entries: Vec::new() }
+    Expected { answer, records: Vec::new(), others: Vec::new() }
+}
+
+/// The finder, for rows of the lengths that `rooms` says.
+pub fn find(search: Search, rooms: Rooms) -> ExpectedFinding {
+    match second::find(search.stream, search.list, search.query, rooms) {
+        Ok(found) => found_all(&found),
+        Err(Refusal { number, offset }) => {
+            let answer = FindResult { offset, refusal: number.into(), ..FindResult::default() };
+            Expected { answer, records: Vec::new(), others: Vec::new() }
+        }
+    }
+}
+
+fn found_all(found: &Found) -> ExpectedFinding {
+    let (records, hits) = (found.records.len(), found.hits.len());
+    let answer = FindResult { offset: 0, records, hits, refusal: 0 };
+    let number = |&hit: &usize| u32::try_from(hit).expect("a stream has fewer records");
+    let records = found.records.iter().map(record).collect();
+    Expected { answer, records, others: found.hits.iter().map(number).collect() }
 }
 
 fn colour(colour: second::Colour) -> Colour {

@@ -4,10 +4,11 @@
 
 pub mod agree;
 pub mod expected;
+pub mod measure;
 pub mod proved;
 pub mod rows;
 pub mod shape;
 pub mod text;
 pub mod types;
 
-pub use types::{Colour, Entry, ReadResult, Record};
+pub use types::{Colour, Entry, FindResult, ReadResult, Record, Search};

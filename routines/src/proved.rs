@@ -1,7 +1,7 @@
 //! The proved code, through the static library of `crates/capi`.
 
-use crate::text::glyphs_text;
-use crate::{Entry, ReadResult, Record};
+use crate::text::{found_text, glyphs_text};
+use crate::{Entry, FindResult, ReadResult, Record, Search};
 use second::refusal::{Refusal, Rooms};
 use second::vectors::{Check, Program, Routine};
 
@@ -18,6 +18,19 @@ extern "C" {
         entries: *mut Entry,
         entries_len: usize,
     ) -> ReadResult;
+
+    fn mrkvandel_find(
+        stream: *const u8,
+        stream_len: usize,
+        widths: *const u8,
+        widths_len: usize,
+        query: *const u8,
+        query_len: usize,
+        records: *mut Record,
+        records_len: usize,
+        hits: *mut u32,
+        hits_len: usize,
+    ) -> FindResult;
 }
 
 /// Reads a stream with its width list into the rows.
@@ -38,8 +51,28 @@ pub fn read(stream: &[u8], widths: &[u8], records: &mut [Record], entries: &mut 
     }
 }
 
+/// Finds a query in a stream with its width list; the records and the hits go into the rows.
+pub fn find(search: Search, records: &mut [Record], hits: &mut [u32]) -> FindResult {
+    let Search { stream, list, query } = search;
+    // SAFETY: as for `read`
+    unsafe {
+        mrkvandel_find(
+            stream.as_ptr(),
+            stream.len(),
+            list.as_ptr(),
+            list.len(),
+            query.as_ptr(),
+            query.len(),
+            records.as_mut_ptr(),
+            records.len(),
+            hits.as_mut_ptr(),
+            hits.len(),
+        )
+    }
+}
+
 /// The routines that the library has.
-pub const ROUTINES: [Routine; 1] = [Routine::Reader];
+pub const ROUTINES: [Routine; 2] = [Routine::Reader, Routine::Finder];
 
 /// The routine that a check of a vector is about.
 pub fn routine_of(check: &Check) -> Routine {
@@ -54,7 +87,7 @@ pub fn routine_of(check: &Check) -> Routine {
 pub struct Proved;
 
 /// Rows of at most so many stand for unlimited room in a vector: a stream of n bytes needs at most n
-/// records and n / 2 entries, and no vector needs a million.
+/// records, n / 2 entries and n hits, and no vector needs a million.
 const MOST: usize = 1_000_000;
 
 impl Program for Proved {
@@ -72,8 +105,14 @@ impl Program for Proved {
         unimplemented!("the library has no rewriter yet")
     }
 
-    fn find(&self, _: &[u8], _: &[u8], _: &[u8], _: Rooms) -> Result<Vec<u8>, Refusal> {
-        unimplemented!("the library has no finder yet")
+    fn find(&self, stream: &[u8], list: &[u8], query: &[u8], rooms: Rooms) -> Result<Vec<u8>, Refusal> {
+        let mut records = vec![Record::default(); rooms.records.min(stream.len()).min(MOST)];
+        let mut hits = vec![0; rooms.hits.min(stream.len()).min(MOST)];
+        let answer = find(Search { stream, list, query }, &mut records, &mut hits);
+        match answer.refusal {
+            0 => Ok(found_text(&answer, &hits)),
+            number => Err(refusal(number, answer.offset)),
+        }
     }
 }
 

@@ -9,11 +9,16 @@ pub const GUARD: usize = 4;
 
 /// What a row is made of.
 pub trait Item: Copy + Debug + PartialEq {
+    /// What a row of them is called.
+    const ROW: &'static str;
+
     /// An item of numbers without order, which no routine would write.
     fn without_order(random: &mut Random) -> Self;
 }
 
 impl Item for Record {
+    const ROW: &'static str = "records";
+
     fn without_order(random: &mut Random) -> Record {
         let mut number = || random.number() as u32;
         Record {
@@ -32,6 +37,8 @@ impl Item for Record {
 }
 
 impl Item for Entry {
+    const ROW: &'static str = "entries";
+
     fn without_order(random: &mut Random) -> Entry {
         let mut number = || random.number() as u32;
         Entry {
@@ -44,6 +51,15 @@ impl Item for Entry {
             h: number() as i32,
             v: number() as i32,
         }
+    }
+}
+
+/// A hit.
+impl Item for u32 {
+    const ROW: &'static str = "hits";
+
+    fn without_order(random: &mut Random) -> u32 {
+        random.number() as u32
     }
 }
 
@@ -71,14 +87,15 @@ impl<T: Item> Lent<T> {
     pub fn holds(&self, filled: &[T]) -> Result<(), String> {
         let end = self.whole.len() - GUARD;
         if filled.len() > end - GUARD {
-            return Err(format!("{} items are due in a row of {}", filled.len(), end - GUARD));
+            return Err(format!("{}, {} items are due in a row of {}", T::ROW, filled.len(), end - GUARD));
         }
         for (place, (now, before)) in self.whole.iter().zip(&self.before).enumerate() {
             let due = place.checked_sub(GUARD).and_then(|number| filled.get(number)).unwrap_or(before);
             if now != due {
                 let number = place as i64 - GUARD as i64;
                 let lies = if (GUARD..end).contains(&place) { "in the row" } else { "in a guard" };
-                return Err(format!("item {number}, {lies}:\nproved   {now:?}\nexpected {due:?}"));
+                let row = T::ROW;
+                return Err(format!("{row}, item {number}, {lies}:\nproved   {now:?}\nexpected {due:?}"));
             }
         }
         Ok(())

@@ -1,6 +1,6 @@
 //! FORMATS: the text that a program prints, from what the library gives.
 
-use crate::{Colour, Entry, ReadResult, Record};
+use crate::{Colour, Entry, FindResult, ReadResult, Record};
 use std::io::Write;
 
 /// `glyphs STREAM WIDTHS`, for an accepted stream.
@@ -21,6 +21,13 @@ pub fn glyphs_text(stream: &[u8], answer: &ReadResult, records: &[Record], entri
     let (glyph, fill) = (colour(glyph), colour(fill));
     writeln!(text, "end {records} {entries} {pages} {h} {v} {glyph} {fill}").expect("a text in memory");
     text
+}
+
+/// `find STREAM WIDTHS QUERY`, for an accepted stream and query.
+pub fn found_text(answer: &FindResult, hits: &[u32]) -> Vec<u8> {
+    let mut text: String = hits[..answer.hits].iter().map(|hit| format!("hit {hit}\n")).collect();
+    text += &format!("found {} {}\n", answer.records, answer.hits);
+    text.into_bytes()
 }
 
 /// The letter of a number; nothing for 0, and the number in brackets where it is no byte.

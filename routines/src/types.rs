@@ -1,5 +1,6 @@
 //! The structs that cross to the library, field for field as in `../include/mrkvandel.h`, which
-//! says what each holds. They have no padding, so that fields that are equal are bytes that are.
+//! says what each holds. Those of which rows are made have no padding, so that fields that are equal
+//! are bytes that are. (A hit is a `u32`.)
 
 /// A glyph record.
 #[repr(C)]
@@ -52,4 +53,22 @@ pub struct ReadResult {
     pub v: i32,
     pub glyph: Colour,
     pub fill: Colour,
+}
+
+/// The finder's answer; `refusal` is 0 where stream and query are accepted.
+#[repr(C)]
+#[derive(Clone, Copy, Debug, Default, PartialEq, Eq)]
+pub struct FindResult {
+    pub offset: usize,
+    pub records: usize,
+    pub hits: usize,
+    pub refusal: u32,
+}
+
+/// What is handed to the finder, its rows aside.
+#[derive(Clone, Copy)]
+pub struct Search<'a> {
+    pub stream: &'a [u8],
+    pub list: &'a [u8],
+    pub query: &'a [u8],
 }

@@ -1,14 +1,14 @@
-//! The proved routines and the second program agree on the vectors and on generated streams: in the
-//! answer, in both rows, and in all that is to stay as it was.
+//! The proved reader and the second program agree on the vectors and on generated streams: in the
+//! answer, in both rows, and in all that is to stay as it was. The vectors hold for every routine.
 
-use routines::agree::{self, Measure, Seen, MEASURES};
+use routines::agree;
+use routines::measure::{say, Seen};
 use routines::proved::{self, routine_of, Proved, ROUTINES};
 use routines::{expected, shape, Colour, Entry, ReadResult, Record};
 use second::generate;
 use second::generate::random::Random;
 use second::refusal::{Rooms, LIST_LIMIT, STREAM_LIMIT};
-use second::vectors::{self, Case, Routine, BODY_HEAD, BODY_TAIL, SAMPLE_LIST};
-use std::io::Write;
+use second::vectors::{self, Case, BODY_HEAD, BODY_TAIL, SAMPLE_LIST};
 
 const INPUTS: u64 = 100_000;
 
@@ -19,43 +19,32 @@ const REFUSALS: [usize; 12] = [1, 2, 3, 4, 5, 6, 7, 8, 9, 10, 11, 13];
 const SAMPLE: &[u8] =
     b"x T ps\nx res 72000 1 1\nx init\np1\nx font 1 TR\nf1\ns10000\nV12000\nH72000\ntab\nwh2500\nC'e\nx stop\n";
 
-/// Prints a line even where the test passes.
-fn say(line: String) {
-    let _ = writeln!(std::io::stderr(), "{line}");
-}
-
 fn vector_cases() -> Vec<Case> {
     vectors::all_cases().expect("the vectors can be read")
 }
 
 /// Runs the checks of a case that are about a routine of the library; how many these are, and how
-/// many are left out, of the rewriter and of the finder.
-fn run_checks(mut case: Case) -> Result<[usize; 3], String> {
-    let is_left_out = |routine| !ROUTINES.contains(&routine);
-    let count = |routine| case.checks.iter().filter(|check| routine_of(check) == routine).count();
-    let [rewriter, finder] = [Routine::Rewriter, Routine::Finder]
-        .map(|routine| usize::from(is_left_out(routine)) * count(routine));
+/// many are left out.
+fn run_checks(mut case: Case) -> Result<[usize; 2], String> {
+    let all = case.checks.len();
     case.checks.retain(|check| ROUTINES.contains(&routine_of(check)));
-    vectors::run(&case, &Proved).map(|()| [case.checks.len(), rewriter, finder])
+    vectors::run(&case, &Proved).map(|()| [case.checks.len(), all - case.checks.len()])
 }
 
 #[test]
 fn vectors_hold() {
-    let (mut cases, mut sums) = (0, [0; 3]);
+    let (mut cases, mut made, mut left_out) = (0, 0, 0);
     let mut failures = Vec::new();
     for case in vector_cases() {
         cases += 1;
         match run_checks(case) {
-            Ok(counts) => (0..3).for_each(|place| sums[place] += counts[place]),
+            Ok(counts) => (made, left_out) = (made + counts[0], left_out + counts[1]),
             Err(message) => failures.push(message),
         }
     }
     assert!(failures.is_empty(), "{} cases fail\n{}", failures.len(), failures.join("\n"));
-    let [made, rewriter, finder] = sums;
-    say(format!(
-        "vectors: {cases} cases, {made} checks made; left out {rewriter} of the rewriter, {finder} of the finder"
-    ));
-    assert!(cases >= 958 && made >= 900, "vectors are missing");
+    say(&format!("vectors: {cases} cases, {made} checks made; left out {left_out}, of the rewriter"));
+    assert!(cases >= 958 && made >= 1_007, "vectors are missing");
 }
 
 /// Every vector's stream, with rows of every measure.
@@ -66,7 +55,7 @@ fn vectors_agree() {
         let agreed = agree::input(&case.stream, &case.list, &mut Random::new(seen.inputs), &mut seen);
         agreed.unwrap_or_else(|message| panic!("case {}: {message}", case.name));
     }
-    assert_all_seen("vectors", &seen, 1);
+    seen.assert_all("vectors, read", &REFUSALS, 1);
 }
 
 /// Generated streams, sound and damaged, with rows of every measure.
@@ -80,38 +69,14 @@ fn generated_streams_agree() {
         let agreed = agree::input(&case.stream, &case.list, &mut random, &mut seen);
         agreed.unwrap_or_else(|message| panic!("seed {seed}: {message}"));
     }
-    assert_all_seen("generated", &seen, 100);
-}
-
-/// Every refusal of the reader came at least `least` times, and rows were as their measure says.
-fn assert_all_seen(label: &str, seen: &Seen, least: u64) {
-    let refusals = REFUSALS.map(|number| format!("{number}: {}", seen.times(number))).join(", ");
-    let (inputs, readings, accepted) = (seen.inputs, seen.readings(), seen.times(0));
-    say(format!("{label}: {inputs} inputs, {readings} readings, {accepted} accepted, refused {refusals}"));
-    for measure in MEASURES {
-        let counts = seen.answers[measure as usize];
-        let (all, accepted, no_room) = (counts.iter().sum::<u64>(), counts[0], counts[13]);
-        say(format!("  {measure:?}: {all} readings, {accepted} accepted, {no_room} without room"));
-        let is_as_it_says = match measure {
-            Measure::ExactlyEnough | Measure::Plenty => accepted >= least && no_room == 0,
-            Measure::OneRecordTooFew | Measure::OneEntryTooFew => no_room >= least && no_room == all,
-            Measure::Nothing => no_room >= least && accepted == 0,
-            Measure::WithoutOrder => no_room >= least && accepted >= least,
-        };
-        assert!(is_as_it_says, "{label}: {measure:?} {counts:?}");
-    }
-    for number in REFUSALS {
-        assert!(seen.times(number) >= least, "{label}: refusal {number} came {} times", seen.times(number));
-    }
-    assert_eq!(seen.times(12), 0, "{label}: the reader has no query");
+    seen.assert_all("generated, read", &REFUSALS, 100);
 }
 
 /// The longest stream and the longest list are read, one of a byte more is refused before all else.
 #[test]
 fn lengths_at_the_limit() {
-    let rooms = Rooms { records: 10, entries: 10, ..Rooms::default() };
     let read = |stream: &[u8], list: &[u8]| {
-        let answer = agree::reading(stream, list, rooms, &mut Random::new(0));
+        let answer = agree::reading(stream, list, [10, 10], &mut Random::new(0));
         let answer = answer.unwrap_or_else(|message| panic!("{message}"));
         (answer.refusal, answer.offset)
     };
@@ -138,8 +103,7 @@ fn long_streams_agree() {
     {
         let mut random = Random::new(0);
         let mut refusal = |records, entries| {
-            let rooms = Rooms { records, entries, ..Rooms::default() };
-            let answer = agree::reading(&stream, &list, rooms, &mut random);
+            let answer = agree::reading(&stream, &list, [records, entries], &mut random);
             answer.unwrap_or_else(|message| panic!("{message}")).refusal
         };
         let answer = expected::read(&stream, &list, Rooms::default()).answer;

@@ -1,48 +1,54 @@
 //! The comparison itself: whatever is wrong, anywhere, is reported.
 
-use routines::agree::compare;
+use routines::agree::{call_find, call_read, Call};
 use routines::expected::{self, Expected};
-use routines::proved::{self, Proved};
-use routines::rows::{Lent, GUARD};
-use routines::{Entry, ReadResult, Record};
+use routines::measure::Answer;
+use routines::proved::Proved;
+use routines::rows::{Item, GUARD};
+use routines::{Entry, FindResult, ReadResult, Record, Search};
 use second::generate::random::Random;
 use second::refusal::Rooms;
 use second::vectors::{run_all, BODY_HEAD, BODY_TAIL, SAMPLE_LIST};
 
-const ROOMS: Rooms = Rooms { records: 5, entries: 9, hits: 0, spelling: 0 };
+/// Rows that are not full: two records of five, and six entries or one hit of nine.
+const ROOM: [usize; 2] = [5, 9];
+const ROOMS: Rooms = Rooms { records: ROOM[0], entries: ROOM[1], hits: ROOM[1], spelling: 0 };
 
-/// A reading with rows that are not full: two records of five, six entries of nine.
-struct Read {
-    answer: ReadResult,
-    records: Lent<Record>,
-    entries: Lent<Entry>,
-    expected: Expected,
+/// A call that is right, and what is expected of it.
+type Case<A, T> = (Call<A, T>, Expected<A, T>);
+
+fn read(body: &[u8]) -> Case<ReadResult, Entry> {
+    let stream = [BODY_HEAD, body, BODY_TAIL].concat();
+    let call = call_read(&stream, SAMPLE_LIST, ROOM, &mut Random::new(0));
+    (call, expected::read(&stream, SAMPLE_LIST, ROOMS))
 }
 
-impl Read {
-    fn new(body: &[u8]) -> Read {
-        let stream = [BODY_HEAD, body, BODY_TAIL].concat();
-        let mut random = Random::new(0);
-        let mut records = Lent::new(ROOMS.records, &mut random);
-        let mut entries = Lent::new(ROOMS.entries, &mut random);
-        let answer = proved::read(&stream, SAMPLE_LIST, records.row(), entries.row());
-        Read { answer, records, entries, expected: expected::read(&stream, SAMPLE_LIST, ROOMS) }
-    }
-
-    fn compared(&self) -> Result<(), String> {
-        compare(&self.answer, &self.records, &self.entries, &self.expected)
-    }
+fn find(body: &[u8]) -> Case<FindResult, u32> {
+    let stream = [BODY_HEAD, body, BODY_TAIL].concat();
+    let search = Search { stream: &stream, list: SAMPLE_LIST, query: b"glyph=b\n" };
+    (call_find(search, ROOM, &mut Random::new(0)), expected::find(search, ROOMS))
 }
 
-/// What is reported where `edit` makes something wrong in a reading that is right.
-fn report(body: &[u8], edit: impl FnOnce(&mut Read)) -> String {
-    let mut read = Read::new(body);
-    assert_eq!(read.compared(), Ok(()));
-    edit(&mut read);
-    read.compared().expect_err("a wrong reading is reported")
+/// What is reported where `edit` makes something wrong in a case that is right.
+fn report<A: Answer, T: Item>(
+    case: Case<A, T>,
+    edit: impl FnOnce(&mut Call<A, T>, &mut Expected<A, T>),
+) -> String {
+    let (mut call, mut expected) = case;
+    assert_eq!(call.compare(&expected), Ok(()));
+    edit(&mut call, &mut expected);
+    call.compare(&expected).expect_err("a wrong call is reported")
 }
 
 const BODY: &[u8] = b"tab\nDFr 1 2 3\n";
+
+/// An edit of the answer, and the same edit of what is expected.
+fn assert_answer_is_reported<A: Answer, T: Item>(case: impl Fn() -> Case<A, T>, edit: fn(&mut A)) {
+    let message = report(case(), |call, _| edit(&mut call.answer));
+    assert!(message.starts_with("answer\n"), "{message}");
+    let message = report(case(), |_, expected| edit(&mut expected.answer));
+    assert!(message.starts_with("answer\n"), "{message}");
+}
 
 /// Each number of the answer.
 #[test]
@@ -60,12 +66,14 @@ fn a_wrong_answer_is_reported() {
         |answer| answer.fill.scheme += 1,
         |answer| answer.fill.parts[3] += 1,
     ];
-    for edit in wrong {
-        let message = report(BODY, |read| edit(&mut read.answer));
-        assert!(message.starts_with("answer\n"), "{message}");
-        let message = report(BODY, |read| edit(&mut read.expected.answer));
-        assert!(message.starts_with("answer\n"), "{message}");
-    }
+    wrong.into_iter().for_each(|edit| assert_answer_is_reported(|| read(BODY), edit));
+    let wrong: [fn(&mut FindResult); 4] = [
+        |answer| answer.offset += 1,
+        |answer| answer.records += 1,
+        |answer| answer.hits += 1,
+        |answer| answer.refusal += 1,
+    ];
+    wrong.into_iter().for_each(|edit| assert_answer_is_reported(|| find(BODY), edit));
 }
 
 /// Each number of a record.
@@ -85,15 +93,18 @@ fn a_wrong_record_is_reported() {
     ];
     for edit in wrong {
         for number in [0, 1] {
-            let message = report(BODY, |read| edit(&mut read.records.row()[number]));
-            assert!(message.starts_with(&format!("records, item {number}, in the row:")), "{message}");
+            let start = format!("records, item {number}, in the row:");
+            let message = report(read(BODY), |call, _| edit(&mut call.records.row()[number]));
+            assert!(message.starts_with(&start), "{message}");
+            let message = report(find(BODY), |call, _| edit(&mut call.records.row()[number]));
+            assert!(message.starts_with(&start), "{message}");
         }
     }
 }
 
-/// Each number of an entry.
+/// Each number of an entry, and a hit.
 #[test]
-fn a_wrong_entry_is_reported() {
+fn a_wrong_entry_or_hit_is_reported() {
     let wrong: [fn(&mut Entry); 8] = [
         |entry| entry.command += 1,
         |entry| entry.letter += 1,
@@ -106,46 +117,63 @@ fn a_wrong_entry_is_reported() {
     ];
     for edit in wrong {
         for number in [0, 5] {
-            let message = report(BODY, |read| edit(&mut read.entries.row()[number]));
+            let message = report(read(BODY), |call, _| edit(&mut call.others.row()[number]));
             assert!(message.starts_with(&format!("entries, item {number}, in the row:")), "{message}");
         }
     }
-}
-
-/// Every place behind the last record and entry, and every place of both guards, in an accepted
-/// stream; and every place at all in a refused one.
-#[test]
-fn a_touched_place_is_reported() {
-    for (body, records, entries) in [(BODY, 2, 6), (b"q", 0, 0)] {
-        let kept = |filled, room: usize| {
-            (0..room + 2 * GUARD).filter(move |place| !(GUARD..GUARD + filled).contains(place))
-        };
-        for place in kept(records, ROOMS.records) {
-            let message = report(body, |read| read.records.whole[place].gap ^= 1);
-            assert!(
-                message.starts_with(&format!("records, item {},", place as i64 - GUARD as i64)),
-                "{message}"
-            );
-        }
-        for place in kept(entries, ROOMS.entries) {
-            let message = report(body, |read| read.entries.whole[place].h ^= 1);
-            assert!(
-                message.starts_with(&format!("entries, item {},", place as i64 - GUARD as i64)),
-                "{message}"
-            );
-        }
+    for wrong in [0, 2, 256 + 1, 65_536 + 1] {
+        let message = report(find(BODY), |call, _| call.others.row()[0] = wrong);
+        assert!(message.starts_with("hits, item 0, in the row:"), "{message}");
     }
 }
 
-/// A record or entry too few or too many.
+/// The places of a row and its guards that are to stay as they were, where `filled` are not.
+fn kept(filled: usize, room: usize) -> impl Iterator<Item = usize> {
+    (0..room + 2 * GUARD).filter(move |place| !(GUARD..GUARD + filled).contains(place))
+}
+
+/// A touched place of either row is reported, where so many of each are filled.
+fn assert_touches_are_reported<A: Answer, T: Item>(
+    case: impl Fn() -> Case<A, T>,
+    filled: [usize; 2],
+    touch: fn(&mut T),
+) {
+    let item = |place: usize| format!("item {},", place as i64 - GUARD as i64);
+    for place in kept(filled[0], ROOM[0]) {
+        let message = report(case(), |call, _| call.records.whole[place].gap ^= 1);
+        assert!(message.starts_with(&format!("records, {}", item(place))), "{message}");
+    }
+    for place in kept(filled[1], ROOM[1]) {
+        let message = report(case(), |call, _| touch(&mut call.others.whole[place]));
+        assert!(message.starts_with(&format!("{}, {}", T::ROW, item(place))), "{message}");
+    }
+}
+
+/// Every place behind the last item, and every place of both guards, in an accepted stream; and
+/// every place at all in a refused one.
+#[test]
+fn a_touched_place_is_reported() {
+    assert_touches_are_reported(|| read(BODY), [2, 6], |entry| entry.h ^= 1);
+    assert_touches_are_reported(|| read(b"q"), [0, 0], |entry| entry.h ^= 1);
+    assert_touches_are_reported(|| find(BODY), [2, 1], |hit| *hit ^= 1);
+    assert_touches_are_reported(|| find(b"q"), [0, 0], |hit| *hit ^= 1);
+}
+
+/// A record, entry or hit too few or too many.
 #[test]
 fn a_wrong_number_of_items_is_reported() {
-    report(BODY, |read| read.expected.records.truncate(1));
-    report(BODY, |read| read.expected.records.push(Record::default()));
-    report(BODY, |read| read.expected.entries.truncate(5));
-    report(BODY, |read| read.expected.entries.push(Entry::default()));
-    let message = report(BODY, |read| read.expected.records.resize(6, Record::default()));
+    report(read(BODY), |_, expected| expected.records.truncate(1));
+    report(read(BODY), |_, expected| expected.records.push(Record::default()));
+    report(read(BODY), |_, expected| expected.others.truncate(5));
+    report(read(BODY), |_, expected| expected.others.push(Entry::default()));
+    report(find(BODY), |_, expected| expected.records.truncate(1));
+    report(find(BODY), |_, expected| expected.records.push(Record::default()));
+    report(find(BODY), |_, expected| expected.others.clear());
+    report(find(BODY), |_, expected| expected.others.push(1));
+    let message = report(read(BODY), |_, expected| expected.records.resize(6, Record::default()));
     assert_eq!(message, "records, 6 items are due in a row of 5");
+    let message = report(find(BODY), |_, expected| expected.others.resize(10, 1));
+    assert_eq!(message, "hits, 10 items are due in a row of 9");
 }
 
 /// A vector with a wrong expectation.
@@ -160,6 +188,13 @@ fn a_wrong_vector_is_reported() {
         "body ca\nhas glyph 1 1 0 0 1 10000 0 0 56 1 a",
         "body ca\nrecords 0\nreader ok",
         "body ca\nentries 5\nreader refused 13 0",
+        "body ca\nquery glyph=a\\n\nfind found 1 0\\n",
+        "body ca\nquery glyph=a\\n\nfind hit 1\\nfound 1 1\\n",
+        "body ca\nquery glyph=a\\n\nfind hit 0\\nfound 2 1\\n",
+        "body ca\nquery glyph=a\\n\nfinder refused 12 0",
+        "body ca\nquery glyph=a\nfinder ok",
+        "body ca\nquery glyph=a\\n\nhits 0\nfinder ok",
+        "body ca\nquery glyph=a\\n\nhits 1\nrecords 1\nfinder refused 13 0",
     ];
     for lines in wrong {
         let message = run_all(&format!("case wrong-one\n{lines}\n"), &Proved).unwrap_err();

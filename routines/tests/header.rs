@@ -1,10 +1,10 @@
 //! `include/mrkvandel.h` and this package's structs agree with each other and with the Rattle source,
 //! and the library can be called from C. It needs a C and a C++ compiler, `cc` and `c++`.
 
-use routines::{Colour, Entry, ReadResult, Record};
-use second::generate;
-use second::print::{glyphs_text, refusal_text};
-use second::refusal::{self, Rooms};
+use routines::{Colour, Entry, FindResult, ReadResult, Record};
+use second::generate::{case, search::search, Case};
+use second::print::{found_text, glyphs_text, refusal_text};
+use second::refusal::{self, Refusal, Rooms};
 use std::any::type_name_of_val;
 use std::mem::{offset_of, size_of, size_of_val};
 use std::path::{Path, PathBuf};
@@ -44,16 +44,17 @@ macro_rules! layout {
 }
 
 /// The structs, each with its fields in their order.
-fn layouts() -> [Layout; 4] {
+fn layouts() -> [Layout; 5] {
     [
         layout!(Record as mrkvandel_record: ordinal page h v font size place len index gap),
         layout!(Entry as mrkvandel_entry: command letter scheme ordinal place len h v),
         layout!(Colour as mrkvandel_colour: scheme parts),
         layout!(ReadResult as mrkvandel_read_result: offset records entries refusal pages h v glyph fill),
+        layout!(FindResult as mrkvandel_find_result: offset records hits refusal),
     ]
 }
 
-const VALUES: [(&str, usize); 16] = [
+const VALUES: [(&str, usize); 17] = [
     ("ACCEPTED", 0),
     ("TOO_LONG", refusal::TOO_LONG as usize),
     ("WIDTH_LIST", refusal::WIDTH_LIST as usize),
@@ -70,6 +71,7 @@ const VALUES: [(&str, usize); 16] = [
     ("NO_ROOM", refusal::NO_ROOM as usize),
     ("STREAM_LIMIT", refusal::STREAM_LIMIT),
     ("LIST_LIMIT", refusal::LIST_LIMIT),
+    ("QUERY_LIMIT", refusal::QUERY_LIMIT),
 ];
 
 fn in_repository(path: &str) -> PathBuf {
@@ -165,12 +167,12 @@ fn the_source_has_the_same_structs() {
     }
 }
 
-/// The C name of a type of the library's source; bytes aside, the name of a struct.
+/// The C name of a type of the library's source; bytes and hits aside, the name of a struct.
 fn c_type(name: &str) -> String {
     let layouts = layouts();
     match layouts.iter().find(|layout| layout.name == name) {
         Some(layout) => layout.c_name.to_string(),
-        None if name == "u8" => "uint8_t".to_string(),
+        None if name == "u8" || name == "u32" => format!("uint{}_t", &name[1..]),
         None => panic!("no C type for {name}"),
     }
 }
@@ -213,30 +215,80 @@ fn the_header_declares_what_the_source_exports() {
     );
 }
 
-/// A program over header and library prints what the second program prints.
-fn glyphs_agree(compiler: [&str; 4], name: &str) {
-    let [program, stream, widths] = ["", "-stream", "-widths"].map(|end| temporary(&format!("{name}{end}")));
-    compile(compiler, "glyphs.c", &program);
+/// What the second program prints for a case.
+type Text = fn(&Case) -> Result<Vec<u8>, Refusal>;
+
+/// A program over header and library, given the files of these inputs of a case, prints what the
+/// second program prints; how many cases are accepted.
+fn count_agreed(compiler: [&str; 4], name: &str, cases: fn(u64) -> Case, inputs: usize, text: Text) -> u32 {
+    let label = format!("{name}-{}", compiler[3]);
+    let program = temporary(&label);
+    compile(compiler, &format!("{name}.c"), &program);
+    let files: Vec<PathBuf> = (0..inputs).map(|place| temporary(&format!("{label}-{place}"))).collect();
+    let words: Vec<&Path> = files.iter().map(PathBuf::as_path).collect();
     let mut accepted = 0;
     for seed in 0..100 {
-        let case = generate::case(seed);
-        std::fs::write(&stream, &case.stream).expect("the stream can be written");
-        std::fs::write(&widths, &case.list).expect("the list can be written");
-        let output = output_of(&program, &[&stream, &widths]);
-        let reading = second::read(&case.stream, &case.list, Rooms::default());
-        accepted += u32::from(reading.is_ok());
-        let text = reading.map_or_else(refusal_text, |reading| glyphs_text(&case.stream, &reading));
-        assert_eq!(output.stdout.escape_ascii().to_string(), text.escape_ascii().to_string(), "seed {seed}");
+        let case = cases(seed);
+        for (file, bytes) in files.iter().zip([&case.stream, &case.list, &case.query]) {
+            std::fs::write(file, bytes).expect("an input can be written");
+        }
+        let expected = text(&case);
+        accepted += u32::from(expected.is_ok());
+        let expected = expected.unwrap_or_else(refusal_text).escape_ascii().to_string();
+        let printed = output_of(&program, &words).stdout.escape_ascii().to_string();
+        assert_eq!(printed, expected, "{label}, seed {seed}");
     }
-    assert!((10..90).contains(&accepted), "{accepted} of 100 streams are accepted");
+    accepted
 }
 
 #[test]
-fn the_library_can_be_called_from_c() {
-    glyphs_agree(C, "glyphs-c");
+fn the_reader_can_be_called_from_c_and_cplusplus() {
+    let text: Text = |case| {
+        let reading = second::read(&case.stream, &case.list, Rooms::default())?;
+        Ok(glyphs_text(&case.stream, &reading))
+    };
+    for compiler in [C, CPLUSPLUS] {
+        let accepted = count_agreed(compiler, "glyphs", case, 2, text);
+        assert!((10..90).contains(&accepted), "{accepted} of 100 streams are accepted");
+    }
 }
 
 #[test]
-fn the_library_can_be_called_from_cplusplus() {
-    glyphs_agree(CPLUSPLUS, "glyphs-cplusplus");
+fn the_finder_can_be_called_from_c_and_cplusplus() {
+    let text: Text = |case| {
+        let found = second::find(&case.stream, &case.list, &case.query, Rooms::default())?;
+        Ok(found_text(&found))
+    };
+    for compiler in [C, CPLUSPLUS] {
+        let accepted = count_agreed(compiler, "find", search, 3, text);
+        assert!((10..90).contains(&accepted), "{accepted} of 100 searches are accepted");
+    }
+    let has_hit = |seed: &u64| text(&search(*seed)).is_ok_and(|text| text.starts_with(b"hit"));
+    assert!((0..100).filter(has_hit).count() >= 20, "few searches hit");
+}
+
+/// The indented lines of README.md's example: its commands, and what they are said to print.
+fn readme_example() -> (String, String) {
+    let readme = text_of("README.md");
+    let (_, behind) = readme.split_once("## Finding, by example\n").expect("README.md has the example");
+    let (example, _) = behind.split_once("\n## ").expect("another section follows");
+    let (shell, _) = example.split_once("In C").expect("the example ends with C");
+    let lines = shell.lines().filter_map(|line| line.strip_prefix("    "));
+    let is_printed = |line: &&str| line.starts_with("hit ") || line.starts_with("found ");
+    let (printed, commands): (Vec<&str>, Vec<&str>) = lines.partition(is_printed);
+    (commands.join("\n"), printed.join("\n") + "\n")
+}
+
+/// With `find.c` in the place of the program `find`, one search and three more print what is said.
+#[test]
+fn the_example_of_the_readme_holds() {
+    let (commands, printed) = readme_example();
+    assert_eq!(commands.matches("target/bin/find").count(), 2, "{commands}");
+    let [program, folder] = ["find-readme", "readme"].map(temporary);
+    compile(C, "find.c", &program);
+    std::fs::create_dir_all(&folder).expect("a folder can be made");
+    let commands = commands.replace("target/bin/find", program.to_str().expect("a path in UTF-8"));
+    let output = Command::new("sh").args(["-e", "-c", &commands]).current_dir(&folder).output();
+    let output = output.expect("a shell can be run");
+    assert_eq!(String::from_utf8_lossy(&output.stdout), printed.repeat(4));
 }

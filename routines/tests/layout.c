@@ -47,7 +47,7 @@ static void print_entry(void) {
     NUMBER(mrkvandel_entry, v);
 }
 
-static void print_colour_and_answer(void) {
+static void print_colour_and_answers(void) {
     SIZE(mrkvandel_colour);
     NUMBER(mrkvandel_colour, scheme);
     FIELD(mrkvandel_colour, parts, "parts");
@@ -61,6 +61,11 @@ static void print_colour_and_answer(void) {
     NUMBER(mrkvandel_read_result, v);
     FIELD(mrkvandel_read_result, glyph, "colour");
     FIELD(mrkvandel_read_result, fill, "colour");
+    SIZE(mrkvandel_find_result);
+    NUMBER(mrkvandel_find_result, offset);
+    NUMBER(mrkvandel_find_result, records);
+    NUMBER(mrkvandel_find_result, hits);
+    NUMBER(mrkvandel_find_result, refusal);
 }
 
 static void print_values(void) {
@@ -80,12 +85,13 @@ static void print_values(void) {
     VALUE(MRKVANDEL_NO_ROOM);
     VALUE(MRKVANDEL_STREAM_LIMIT);
     VALUE(MRKVANDEL_LIST_LIMIT);
+    VALUE(MRKVANDEL_QUERY_LIMIT);
 }
 
 int main(void) {
     print_record();
     print_entry();
-    print_colour_and_answer();
+    print_colour_and_answers();
     print_values();
     return 0;
 }

@@ -33,7 +33,7 @@ pub fn find(stream: &[u8], list: &[u8], query: &[u8], rooms: Rooms) -> Result<Fo
 }
 
 /// "Occurrences may overlap", so every record number is tried.
-fn occurrences(stream: &[u8], records: &[Record], glyphs: &[QueryGlyph]) -> Vec<usize> {
+pub fn occurrences(stream: &[u8], records: &[Record], glyphs: &[QueryGlyph]) -> Vec<usize> {
     let occurs = |run: &[Record]| occurs(stream, run, glyphs);
     let runs = records.windows(glyphs.len()).enumerate();
     runs.filter(|(_, run)| occurs(run)).map(|(number, _)| number).collect()

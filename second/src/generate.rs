@@ -5,6 +5,7 @@ pub mod list;
 pub mod outline;
 pub mod query;
 pub mod random;
+pub mod search;
 pub mod stream;
 
 use crate::refusal::{Rooms, LIST_LIMIT, QUERY_LIMIT, STREAM_LIMIT};

@@ -6,6 +6,12 @@ use second::vectors::{Case, Program, Routine, Second};
 /// The room that stands for unlimited; no case within the bounds needs more.
 const UNLIMITED: usize = 1_000_000_000;
 
+/// The text of what a row held before, one place of it: behind what is written it is still there.
+const OLD_RECORD: &[u8] = b"glyph 9 9 9 9 9 9 9 9 9 9 \n";
+const OLD_ENTRY: &[u8] = b"entry \t\t\t 9 9 9 9 9\n";
+const OLD_BYTES: &[u8] = b"\t\t";
+const OLD_HIT: &[u8] = b"hit 9\n";
+
 /// One check. The declaration's name is a plain word, used by no other check of a run.
 #[derive(Clone, Debug)]
 pub struct Check {
@@ -43,24 +49,28 @@ fn check(number: usize, case: &Case, routine: Routine) -> Check {
     let [records, entries, hits, spelling] =
         [rooms.records, rooms.entries, rooms.hits, rooms.spelling].map(|room| room.min(UNLIMITED));
     let (s, l, q) = (bytes(stream), bytes(list), bytes(query));
-    let (word, computed, answer) = match routine {
+    let (word, computed, answer, behind) = match routine {
         Routine::Reader => (
             "reader",
             format!("readText {s} (readInto {records} {entries} {s} {l})"),
             Second.glyphs(stream, list, rooms),
+            [OLD_RECORD, OLD_ENTRY].concat(),
         ),
         Routine::Rewriter => (
             "rewriter",
             format!("spellText (respellInto {spelling} {s} {l})"),
             Second.respell(stream, list, rooms),
+            OLD_BYTES.to_vec(),
         ),
         Routine::Finder => (
             "finder",
             format!("findText (findInto {records} {hits} {s} {l} {q})"),
             Second.find(stream, list, query, rooms),
+            [OLD_RECORD, OLD_HIT].concat(),
         ),
     };
-    let expected = answer.unwrap_or_else(refusal_text);
+    let mut expected = answer.unwrap_or_else(refusal_text);
+    expected.extend(behind);
     Check { name: format!("{word}{number}"), case: case.name.clone(), computed, expected }
 }
 

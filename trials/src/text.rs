@@ -7,7 +7,7 @@ use Prim.Native.Nat.{ℕ, _+_}
 use mathlib.Core.Bool.{Bool, true, false}
 use mathlib.Core.List.{List, [], _∷_, _++_}
 use lib.IntN.{ℤ, pos, negsuc}
-use lib.ListN.{length, take, drop}
+use lib.ListN.{length, take, drop, replicate}
 use lib.Dec.{eqb}
 use Rattle.rules.specs.declared.Record.{Record}
 use Rattle.rules.specs.declared.Entry.{Entry}
@@ -67,12 +67,32 @@ unfoldable pub hitTexts : List ℕ → List ℕ
 hitTexts [] = []
 hitTexts (n ∷ ns) = (sp (bytes "hit") (decimal n) ++ 10 ∷ []) ++ hitTexts ns
 
--- what the rows held before: it must not be read
-abbrev pub oldRecords : List Record
-oldRecords = record { ordinal = 9; page = pos 9; h = pos 9; v = pos 9; font = 9; size = 9; place = 9; len = 9; index = 9; gap = 9 } ∷ []
+-- What the rows held before: it must not be read, and one place more than is written must keep it, in a refusal all of them.
+abbrev pub oldRecord : Record
+oldRecord = record { ordinal = 9; page = pos 9; h = pos 9; v = pos 9; font = 9; size = 9; place = 9; len = 9; index = 9; gap = 9 }
 
-abbrev pub oldEntries : List Entry
-oldEntries = record { command = 9; letter = 9; scheme = 9; ordinal = 9; place = 9; len = 9; h = pos 9; v = pos 9 } ∷ []
+abbrev pub oldEntry : Entry
+oldEntry = record { command = 9; letter = 9; scheme = 9; ordinal = 9; place = 9; len = 9; h = pos 9; v = pos 9 }
+
+abbrev pub recordsIn : ReadAnswer → ℕ
+recordsIn (R.Refused n at) = 0
+recordsIn (R.Accepted n m p h v) = n
+
+abbrev pub entriesIn : ReadAnswer → ℕ
+entriesIn (R.Refused n at) = 0
+entriesIn (R.Accepted n m p h v) = m
+
+abbrev pub bytesIn : Respelling → ℕ
+bytesIn (S.Refused n at) = 0
+bytesIn (S.Accepted n) = n
+
+abbrev pub foundIn : Finding → ℕ
+foundIn (F.Refused n at) = 0
+foundIn (F.Accepted n m) = n
+
+abbrev pub hitsIn : Finding → ℕ
+hitsIn (F.Refused n at) = 0
+hitsIn (F.Accepted n m) = m
 
 abbrev pub readingText : List ℕ → List Record → List Entry → Reading → ReadAnswer → List ℕ
 readingText s rs xs a (R.Refused n at) = refusedText n at
@@ -82,21 +102,30 @@ readingText s rs xs a (R.Accepted n m p h v) =
     ++ 10 ∷ []))
 
 unfoldable pub readText : List ℕ → Answer → List ℕ
-readText s a = readingText s (recordsOver oldRecords a) (entriesOver oldEntries a) (readingOf a) (readingOf a .answer)
+readText s a =
+    let rs = recordsOver (replicate (recordsIn (readingOf a .answer) + 1) oldRecord) a in
+    let xs = entriesOver (replicate (entriesIn (readingOf a .answer) + 1) oldEntry) a in
+    readingText s rs xs (readingOf a) (readingOf a .answer)
+    ++ (glyphTexts [] (drop (recordsIn (readingOf a .answer)) rs) ++ entryTexts (drop (entriesIn (readingOf a .answer)) xs))
 
 abbrev pub respellingText : List ℕ → Respelling → List ℕ
 respellingText t (S.Refused n at) = refusedText n at
 respellingText t (S.Accepted n) = take n t
 
 unfoldable pub spellText : Spelling → List ℕ
-spellText x = respellingText (bufferOver (9 ∷ 9 ∷ []) x) (respellingOf x)
+spellText x =
+    let t = bufferOver (replicate (bytesIn (respellingOf x) + 2) 9) x in
+    respellingText t (respellingOf x) ++ drop (bytesIn (respellingOf x)) t
 
 abbrev pub findingText : List ℕ → Finding → List ℕ
 findingText is (F.Refused n at) = refusedText n at
 findingText is (F.Accepted n m) = hitTexts (take m is) ++ (sp (bytes "found") (sp (decimal n) (decimal m)) ++ 10 ∷ [])
 
 unfoldable pub findText : Found → List ℕ
-findText f = findingText (hitsOver (9 ∷ 9 ∷ []) f) (findingOf f)
+findText f =
+    let rs = recordsFound (replicate (foundIn (findingOf f) + 1) oldRecord) f in
+    let is = hitsOver (replicate (hitsIn (findingOf f) + 1) 9) f in
+    findingText is (findingOf f) ++ (glyphTexts [] (drop (foundIn (findingOf f)) rs) ++ hitTexts (drop (hitsIn (findingOf f)) is))
 
 unfoldable pub texts : Unit {0}
 unfolding parts glyphTexts entryTexts hitTexts readText spellText findText

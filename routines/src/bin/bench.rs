@@ -1,7 +1,8 @@
-//! The speed of the proved reader beside that of the second program, in one run, on streams of the
-//! shape that troff writes. README.md says what each column measures.
+//! The speed of the proved reader and finder beside that of the second program, in one run, on
+//! streams of the shape that troff writes. README.md says what each line measures.
 
-use routines::{expected, proved, shape, Entry, Record};
+use routines::{expected, proved, shape, Entry, Record, Search};
+use second::find::{occurrences, read_query};
 use second::generate::random::Random;
 use second::read::Walk;
 use second::refusal::Rooms;
@@ -12,35 +13,67 @@ use std::time::{Duration, Instant};
 /// 1, 4, 8 and just under 16 MB: 16,777,216 bytes are 01's limit.
 const SIZES: [usize; 4] = [1_000_000, 4_000_000, 8_000_000, 16_000_000];
 const ROUNDS: usize = 7;
+/// One that occurs, and one whose last glyph no stream of this shape has.
+const QUERIES: [&[u8]; 2] = [b"glyph=t\nglyph=h\nglyph=e\n", b"glyph=t\nglyph=h\nglyph=Q\n"];
+
+/// A name, and how long one run takes. The last two of a group are the second program's.
+type Runner = (&'static str, fn(&mut Rows, Search) -> Duration);
+
+const READERS: [Runner; 3] = [
+    ("proved reader", Rows::time_read),
+    ("second program", time_second_read),
+    ("second, kept rows", Rows::time_kept_read),
+];
+
+const FINDERS: [Runner; 4] = [
+    ("proved finder", Rows::time_find),
+    ("proved, least rows", Rows::time_find_in_least_rows),
+    ("second program", time_second_find),
+    ("second, kept rows", Rows::time_kept_find),
+];
 
 fn main() {
     println!("a record has {} bytes, an entry {}", size_of::<Record>(), size_of::<Entry>());
-    println!("each time is the best of {ROUNDS}, the readers taking turns");
-    println!("ratio: the proved reader's time for one of that reader's");
+    println!("each time is the best of {ROUNDS}, the programs taking turns");
+    println!("ratios: a line's time for one of the second program's, and for one of that with kept rows");
     let list = shape::list();
     for (seed, size) in SIZES.into_iter().enumerate() {
         measure(&shape::stream(size, &mut Random::new(seed as u64)), &list);
     }
 }
 
-/// Measures all readers on one stream and prints what came.
+/// Measures reader and finder on one stream and prints what came.
 fn measure(stream: &[u8], list: &[u8]) {
     let mut rows = Rows::for_stream(stream, list);
     let (records, entries) = (rows.records.len(), rows.entries.len());
     let memory = megabytes(records * size_of::<Record>() + entries * size_of::<Entry>());
     let size = megabytes(stream.len());
     println!("\n{size:.2} MB: {records} records, {entries} entries, rows of {memory:.1} MB");
-    let mut best = [Duration::MAX; 3];
-    for _ in 0..ROUNDS {
-        let times = [rows.time_proved(stream, list), time_second(stream, list), rows.time_walk(stream, list)];
-        (0..3).for_each(|place| best[place] = best[place].min(times[place]));
+    println!(" read");
+    race(&READERS, &mut rows, Search { stream, list, query: b"" });
+    for query in QUERIES {
+        let search = Search { stream, list, query };
+        rows.search_once(search);
+        println!(" find, {} hits", rows.due);
+        race(&FINDERS, &mut rows, search);
     }
-    let names = ["proved reader", "second program", "second, kept rows"];
-    for (name, time) in names.iter().zip(best) {
+}
+
+/// The best time of each, in turns.
+fn race(runners: &[Runner], rows: &mut Rows, search: Search) {
+    let mut best = vec![Duration::MAX; runners.len()];
+    for _ in 0..ROUNDS {
+        for (time, (_, run)) in best.iter_mut().zip(runners) {
+            *time = run(rows, search).min(*time);
+        }
+    }
+    let ratio_to_last =
+        |time: Duration, back: usize| time.as_secs_f64() / best[best.len() - back].as_secs_f64();
+    for ((name, _), &time) in runners.iter().zip(&best) {
+        let [to_second, to_kept] = [2, 1].map(|back| ratio_to_last(time, back));
         let seconds = time.as_secs_f64();
-        let ratio = best[0].as_secs_f64() / seconds;
-        let (time, speed) = (seconds * 1_000.0, size / seconds);
-        println!("  {name:17} {time:8.2} ms {speed:7.1} MB/s, ratio {ratio:.2}");
+        let (time, speed) = (seconds * 1_000.0, megabytes(search.stream.len()) / seconds);
+        println!("  {name:18} {time:8.2} ms {speed:7.1} MB/s, ratios {to_second:.2}, {to_kept:.2}");
     }
 }
 
@@ -48,10 +81,20 @@ fn megabytes(bytes: usize) -> f64 {
     bytes as f64 / 1e6
 }
 
+fn timed<T>(run: impl FnOnce() -> T) -> (Duration, T) {
+    let start = Instant::now();
+    let came = run();
+    (start.elapsed(), came)
+}
+
 /// Rows that are used over and over: every page of their memory has been written before.
 struct Rows {
     records: Vec<Record>,
     entries: Vec<Entry>,
+    /// as many places as records, so that the hits surely have room
+    hits: Vec<u32>,
+    /// how many hits the query has
+    due: usize,
     kept: Vec<second::Record>,
 }
 
@@ -59,42 +102,78 @@ impl Rows {
     /// Rows that are exactly large enough. Both programs must have read the same.
     fn for_stream(stream: &[u8], list: &[u8]) -> Rows {
         let due = expected::read(stream, list, Rooms::default());
-        let mut records = due.records.clone();
-        let mut entries = due.entries.clone();
-        records.fill(Record::default());
-        entries.fill(Entry::default());
+        let mut records = vec![Record::default(); due.records.len()];
+        let mut entries = vec![Entry::default(); due.others.len()];
         let answer = proved::read(stream, list, &mut records, &mut entries);
         assert!(answer.refusal == 0 && answer == due.answer, "{answer:?}");
-        assert!(records == due.records && entries == due.entries, "the rows differ");
-        Rows { records, entries, kept: Vec::new() }
+        assert!(records == due.records && entries == due.others, "the rows differ");
+        Rows { hits: vec![0; records.len()], records, entries, due: 0, kept: Vec::new() }
     }
 
-    fn time_proved(&mut self, stream: &[u8], list: &[u8]) -> Duration {
-        let start = Instant::now();
-        let answer = proved::read(stream, list, &mut self.records, &mut self.entries);
-        let time = start.elapsed();
+    /// Both programs must find the same.
+    fn search_once(&mut self, search: Search) {
+        let due = expected::find(search, Rooms::default());
+        let answer = proved::find(search, &mut self.records, &mut self.hits);
+        assert!(answer.refusal == 0 && answer == due.answer, "{answer:?}");
+        assert!(self.records == due.records && self.hits[..answer.hits] == due.others, "the rows differ");
+        self.due = answer.hits;
+    }
+
+    fn time_read(&mut self, Search { stream, list, .. }: Search) -> Duration {
+        let (time, answer) = timed(|| proved::read(stream, list, &mut self.records, &mut self.entries));
         assert_eq!(answer.records, self.records.len());
         time
     }
 
+    fn time_find(&mut self, search: Search) -> Duration {
+        let (time, answer) = timed(|| proved::find(search, &mut self.records, &mut self.hits));
+        assert_eq!((answer.refusal, answer.hits), (0, self.due));
+        time
+    }
+
+    /// A row of hits that is exactly large enough.
+    fn time_find_in_least_rows(&mut self, search: Search) -> Duration {
+        let hits = &mut self.hits[..self.due];
+        let (time, answer) = timed(|| proved::find(search, &mut self.records, hits));
+        assert_eq!((answer.refusal, answer.hits), (0, self.due));
+        time
+    }
+
     /// The second program's walk, once, with the records in memory of the round before.
-    fn time_walk(&mut self, stream: &[u8], list: &[u8]) -> Duration {
+    fn walk(&mut self, stream: &[u8], list: &[u8]) {
         self.kept.clear();
-        let start = Instant::now();
         let widths = read_list(list).expect("the list is sound");
         let mut walk = Walk::new(stream, &widths);
         while walk.step(&mut self.kept).expect("the stream is sound").is_some() {}
-        let time = start.elapsed();
+    }
+
+    fn time_kept_read(&mut self, Search { stream, list, .. }: Search) -> Duration {
+        let (time, ()) = timed(|| self.walk(stream, list));
         assert_eq!(self.kept.len(), self.records.len());
+        time
+    }
+
+    /// The same walk, then its search.
+    fn time_kept_find(&mut self, Search { stream, list, query }: Search) -> Duration {
+        let (time, hits) = timed(|| {
+            let glyphs = read_query(query).expect("the query is sound");
+            self.walk(stream, list);
+            occurrences(stream, &self.kept, &glyphs)
+        });
+        assert_eq!(hits.len(), self.due);
         time
     }
 }
 
 /// The second program as it is; giving its memory back is not measured.
-fn time_second(stream: &[u8], list: &[u8]) -> Duration {
-    let start = Instant::now();
-    let reading = second::read(stream, list, Rooms::default());
-    let time = start.elapsed();
+fn time_second_read(_: &mut Rows, Search { stream, list, .. }: Search) -> Duration {
+    let (time, reading) = timed(|| second::read(stream, list, Rooms::default()));
     assert!(reading.is_ok());
+    time
+}
+
+fn time_second_find(_: &mut Rows, Search { stream, list, query }: Search) -> Duration {
+    let (time, found) = timed(|| second::find(stream, list, query, Rooms::default()));
+    assert!(found.is_ok());
     time
 }

@@ -1,0 +1,55 @@
+//! Searches: a stream and its list with a query that occurs in it, or nearly.
+
+use super::damage::damage;
+use super::outline::{outline, repeated_outline, write_outline, OUTLINE_LIST};
+use super::query::{cut_query, query, wrong_query};
+use super::random::Random;
+use super::stream::Manner;
+use super::{sound_case, Case};
+use crate::refusal::LIST_LIMIT;
+use crate::{read, Rooms};
+
+/// The search of a seed: mostly sound, else with a wrong query, a wrong list, a wrong stream or
+/// several of them.
+pub fn search(seed: u64) -> Case {
+    let mut random = Random::new(seed);
+    let mut search = sound_search(&mut random);
+    let kind = random.below(100);
+    if kind >= 84 {
+        search.query = wrong_query(&mut random, &search.query);
+    }
+    if (78..84).contains(&kind) || kind >= 96 {
+        damage(&mut random, &mut search.stream);
+    }
+    if (75..78).contains(&kind) || kind >= 97 {
+        damage(&mut random, &mut search.list);
+    }
+    if kind == 74 && random.once_in(4) {
+        let more = random.below(2);
+        search.list.resize(LIST_LIMIT + more, b'\n');
+    }
+    search
+}
+
+/// A search whose stream, list and query were made by the rules, or with slips in the stream.
+fn sound_search(random: &mut Random) -> Case {
+    let mut case = match random.below(20) {
+        0..=8 => outlined(random, outline),
+        9..=13 => outlined(random, repeated_outline),
+        14..=17 => sound_case(random, Manner::default()),
+        18 => sound_case(random, Manner { edges: true, slips: false }),
+        _ => sound_case(random, Manner { edges: false, slips: true }),
+    };
+    let reading = read(&case.stream, &case.list, Rooms::default());
+    case.query = match reading {
+        Ok(reading) if !reading.records.is_empty() => cut_query(random, &case.stream, &reading.records),
+        _ => query(random, &case.stream, &case.list),
+    };
+    case
+}
+
+fn outlined(random: &mut Random, outline: fn(&mut Random) -> Vec<super::outline::Item>) -> Case {
+    let outline = outline(random);
+    let stream = write_outline(random, &outline);
+    Case { stream, list: OUTLINE_LIST.to_vec(), query: Vec::new(), rooms: Rooms::default() }
+}

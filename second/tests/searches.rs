@@ -1,0 +1,135 @@
+//! The generated searches: they tell a wrong finder from a right one, and every refusal comes.
+
+use second::find::{read_query, QueryGlyph};
+use second::generate::search::search;
+use second::{find, Record, Rooms};
+
+const SEEDS: u64 = 20_000;
+
+/// The parts of 01's rule. A wrong part in the place of a right one makes a wrong finder.
+#[derive(Clone, Copy)]
+struct Rule {
+    /// whether a record is on the page of the run's first one
+    page: fn(&Record, &Record) -> bool,
+    /// whether a name, of that record, is the name wanted
+    name: fn(&[u8], &Record, &[u8]) -> bool,
+    /// whether the record of the k-th glyph has its gap mark as the query has gap lines
+    gap: fn(usize, &Record, bool) -> bool,
+    /// the hits that are listed, of those found by a query of so many glyphs
+    list: fn(Vec<usize>, usize, &[Record]) -> Vec<usize>,
+}
+
+const RIGHT: Rule = Rule {
+    page: |first, record| record.ordinal == first.ordinal,
+    name: |name, _, wanted| name == wanted,
+    gap: |k, record, wanted| k == 0 || record.gap == wanted,
+    list: |hits, _, _| hits,
+};
+
+const WRONG: [(&str, Rule); 16] = [
+    ("page numbers for ordinals", Rule { page: |first, record| record.page == first.page, ..RIGHT }),
+    ("no pages", Rule { page: |_, _| true, ..RIGHT }),
+    ("gaps are not looked at", Rule { gap: |_, _, _| true, ..RIGHT }),
+    (
+        "a gap may be there unasked",
+        Rule { gap: |k, record, wanted| k == 0 || record.gap || !wanted, ..RIGHT },
+    ),
+    ("a gap may be missing", Rule { gap: |k, record, wanted| k == 0 || wanted || !record.gap, ..RIGHT }),
+    ("the first gap is looked at", Rule { gap: |_, record, wanted| record.gap == wanted, ..RIGHT }),
+    ("the first has a gap", Rule { gap: |k, record, wanted| record.gap == (wanted || k == 0), ..RIGHT }),
+    ("a longer name", Rule { name: |name, _, wanted| name.starts_with(wanted), ..RIGHT }),
+    (
+        "a shorter name",
+        Rule { name: |name, _, wanted| !name.is_empty() && wanted.starts_with(name), ..RIGHT },
+    ),
+    ("the first byte", Rule { name: |name, _, wanted| name.first() == wanted.first(), ..RIGHT }),
+    ("`N` is any glyph", Rule { name: |name, _, wanted| name.is_empty() || name == wanted, ..RIGHT }),
+    (
+        "`N` is a byte",
+        Rule { name: |name, record, wanted| name == wanted || is_index(record, wanted), ..RIGHT },
+    ),
+    ("past a hit", Rule { list: |hits, count, _| parted(&hits, count), ..RIGHT }),
+    ("the first hit", Rule { list: |hits, _, _| hits[..hits.len().min(1)].to_vec(), ..RIGHT }),
+    ("the first page", Rule { list: |hits, _, records| on_first_page(&hits, records), ..RIGHT }),
+    (
+        "not the last record",
+        Rule { list: |hits, count, records| before_last(&hits, count, records), ..RIGHT },
+    ),
+];
+
+fn is_index(record: &Record, wanted: &[u8]) -> bool {
+    record.length == 0 && wanted.len() == 1 && record.index == u32::from(wanted[0])
+}
+
+fn parted(hits: &[usize], count: usize) -> Vec<usize> {
+    let mut listed: Vec<usize> = Vec::new();
+    for &hit in hits {
+        if listed.last().is_none_or(|last| hit >= last + count) {
+            listed.push(hit);
+        }
+    }
+    listed
+}
+
+fn on_first_page(hits: &[usize], records: &[Record]) -> Vec<usize> {
+    hits.iter().copied().filter(|&hit| records[hit].ordinal == 1).collect()
+}
+
+fn before_last(hits: &[usize], count: usize, records: &[Record]) -> Vec<usize> {
+    hits.iter().copied().filter(|&hit| hit + count < records.len()).collect()
+}
+
+fn hits_by(rule: Rule, stream: &[u8], records: &[Record], glyphs: &[QueryGlyph]) -> Vec<usize> {
+    let occurs = |run: &[Record]| {
+        run.iter().zip(glyphs).enumerate().all(|(k, (record, glyph))| {
+            (rule.page)(&run[0], record)
+                && (rule.name)(record.name(stream), record, &glyph.name)
+                && (rule.gap)(k, record, glyph.gap)
+        })
+    };
+    let runs = records.windows(glyphs.len()).enumerate();
+    let hits = runs.filter(|(_, run)| occurs(run)).map(|(number, _)| number).collect();
+    (rule.list)(hits, glyphs.len(), records)
+}
+
+/// Each wrong rule lists other hits than the right one in at least a hundred searches.
+#[test]
+fn wrong_finders_are_told_apart() {
+    let mut told_apart = [0; WRONG.len()];
+    for seed in 0..SEEDS {
+        let case = search(seed);
+        let Ok(found) = find(&case.stream, &case.list, &case.query, Rooms::default()) else { continue };
+        let glyphs = read_query(&case.query).unwrap();
+        let hits = |rule| hits_by(rule, &case.stream, &found.records, &glyphs);
+        assert_eq!(hits(RIGHT), found.hits, "seed {seed}");
+        for (place, (_, rule)) in WRONG.iter().enumerate() {
+            told_apart[place] += u32::from(hits(*rule) != found.hits);
+        }
+    }
+    for ((name, _), count) in WRONG.iter().zip(told_apart) {
+        println!("{name}: {count}");
+        assert!(count >= 100, "{name}: told apart {count} times");
+    }
+}
+
+#[test]
+fn a_search_depends_on_its_seed_alone() {
+    for seed in 0..200 {
+        assert_eq!(search(seed), search(seed), "seed {seed}");
+    }
+    assert_ne!(search(1).query, search(2).query);
+}
+
+/// More than half are accepted, and each refusal but 13, for which the room is to be chosen, comes.
+#[test]
+fn every_refusal_comes() {
+    let mut counts = [0; 14];
+    for seed in 0..SEEDS {
+        let case = search(seed);
+        let refusal = find(&case.stream, &case.list, &case.query, Rooms::default()).err();
+        counts[refusal.map_or(0, |refusal| usize::from(refusal.number))] += 1;
+    }
+    println!("accepted {}, refused 1 to 13: {:?}", counts[0], &counts[1..]);
+    assert!(counts[0] * 2 >= SEEDS, "{} are accepted", counts[0]);
+    assert!(counts[1..13].iter().all(|&count| count >= 10), "{counts:?}");
+}
