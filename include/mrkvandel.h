@@ -1,17 +1,18 @@
 /*
- * Mrkvandel: the proved reader and finder of troff intermediate output, as C functions.
+ * Mrkvandel: the proved reader, finder and rewriter of troff intermediate output, as C functions.
  *
  * The library is target/staticlib/libcapi.a, for x86-64 and the System V calling convention; `rt staticlib capi` proves and writes
- * it. Proved is what the functions answer and leave in the rows; the compiler behind the proof, the way into C and this header are
- * tested (routines/). The source of these
- * declarations is crates/capi/src/lib.rt and, for records, entries and colours, crates/rules/src/lib.rt. What the answers mean is
- * said in full by the definitions in crates/rules/specs.
+ * it. Proved is what the functions answer and leave in the rows and the buffer; the compiler behind the proof, the way into C and
+ * this header are tested (routines/). The source of these declarations is crates/capi/src/lib.rt and, for records, entries and
+ * colours, crates/rules/src/lib.rt. What the answers mean is said in full by the definitions in crates/rules/specs.
  *
  * Of every function here:
- *   - An input or a row crosses as a pointer and the number of its items (of bytes, records, entries or hits).
+ *   - An input, a row or the rewriter's buffer, which is a row of bytes, crosses as a pointer and the number of its items (of bytes,
+ *     records, entries or hits).
  *   - Each pointer must be valid for that many items and aligned for them: to read for an input, to read and write for a row.
  *     None may be null, not even where the number is 0.
- *   - No row may overlap the other row or an input. The inputs may overlap each other. They are not changed.
+ *   - No row may overlap the other row or an input: so a stream cannot be rewritten in its place. The inputs may overlap each other.
+ *     They are not changed.
  *   - Nothing else is asked of a caller: any bytes and any lengths will do, and the rows may hold anything.
  *   - Nothing is allocated and nothing is kept between calls. A call needs up to 80 KiB of the stack.
  *
@@ -35,11 +36,14 @@ extern "C" {
 #define MRKVANDEL_LIST_LIMIT 65536
 #define MRKVANDEL_QUERY_LIMIT 8192
 
+/* The most bytes of a spelling; more is refused as 13. */
+#define MRKVANDEL_SPELLING_LIMIT 16777216
+
 /*
  * Refusal numbers. The offset of a refusal is that of the first byte of the command at fault, counted from 0 in the stream,
  * unless it is said otherwise. A refusal with a smaller number comes first at one command; in all, 1 comes first, then 2, then 12,
- * then the first command at fault, and 13 last, when nothing else is against the inputs. The reader, which has no query, answers 1
- * to 11 or 13, the finder 1 to 13.
+ * then the first command at fault, and 13 last, when nothing else is against the inputs. The reader and the
+ * rewriter, which have no query, answer 1 to 11 or 13, the finder 1 to 13.
  */
 enum {
     /* no refusal */
@@ -72,7 +76,7 @@ enum {
     /* the query is wrong; offset in the query: the start of its first wrong line (one without a newline is wrong; a last gap line is
        that line), 0 if it is empty */
     MRKVANDEL_QUERY = 12,
-    /* a row is too small, or the spelling too long; offset 0 */
+    /* a row or the buffer is too small, or the spelling is over 16,777,216 bytes; offset 0 */
     MRKVANDEL_NO_ROOM = 13
 };
 
@@ -131,12 +135,20 @@ typedef struct mrkvandel_find_result {
     uint32_t refusal; /* 0 where nothing is refused, else the number of the refusal: 1 to 13 */
 } mrkvandel_find_result;
 
+/* The rewriter's answer: 24 bytes, the last four of them without meaning. */
+typedef struct mrkvandel_respell_result {
+    size_t offset;    /* of a refusal, see above; 0 where nothing is refused */
+    size_t len;       /* how many bytes the spelling has, all of them written; 0 in a refusal */
+    uint32_t refusal; /* 0 where nothing is refused, else the number of the refusal: 1 to 11 or 13 */
+} mrkvandel_respell_result;
+
 MRKVANDEL_ASSERT(sizeof(size_t) == 8, "the library is for x86-64");
 MRKVANDEL_ASSERT(sizeof(mrkvandel_record) == 40, "a record has 40 bytes");
 MRKVANDEL_ASSERT(sizeof(mrkvandel_entry) == 32, "an entry has 32 bytes");
 MRKVANDEL_ASSERT(sizeof(mrkvandel_colour) == 20, "a colour has 20 bytes");
 MRKVANDEL_ASSERT(sizeof(mrkvandel_read_result) == 80, "the reader's answer has 80 bytes");
 MRKVANDEL_ASSERT(sizeof(mrkvandel_find_result) == 32, "the finder's answer has 32 bytes");
+MRKVANDEL_ASSERT(sizeof(mrkvandel_respell_result) == 24, "the rewriter's answer has 24 bytes");
 
 /*
  * Reads a stream with its width list. `records` gets one record for each glyph, `entries` one entry for each `D` or `x` command,
@@ -172,6 +184,31 @@ mrkvandel_read_result mrkvandel_read(const uint8_t *stream, size_t stream_len, c
 mrkvandel_find_result mrkvandel_find(const uint8_t *stream, size_t stream_len, const uint8_t *widths, size_t widths_len,
                                      const uint8_t *query, size_t query_len, mrkvandel_record *records, size_t records_len,
                                      uint32_t *hits, size_t hits_len);
+
+/*
+ * Rewrites a stream, with its width list, in the house spelling. `out` gets the spelling:
+ *   - one command a line, each line ended by a newline; one space before each argument, integers in their shortest form; the letters
+ *     of `m`, `D` and `DF` together, `x` and a space before the first letter of its word alone;
+ *   - every command in its order, repeats too, but no motion; comments and dummy arguments go, `n` becomes `n 0 0`;
+ *   - each glyph of `t`, `u` and of two digits by itself, `c` and its byte; of a name of one byte too, of a longer one `C` and the name;
+ *   - before a glyph, `N`, any `D`, `x X` or `x s` a line `H` and then a line `V` with the position there, each only where a reader of
+ *     the spelling so far is at another one;
+ *   - of `x X` a space and its first line, or neither where that is empty; then its `+` lines as they are.
+ *
+ * Accepted (refusal 0): the first `len` bytes of the buffer, as the answer counts them, are the spelling; what lies behind them in
+ * the buffer is unchanged. A buffer that is exactly full is large enough.
+ * Refused: the buffer is unchanged, every byte of it. 13 comes also where the spelling is over 16,777,216 bytes, however large the
+ * buffer is.
+ *
+ * With the same width list the spelling is accepted by the reader and gives the same glyphs, drawings, controls, pages, end position
+ * and colours as the stream; and rewriting it gives it back, byte for byte. (Both proved.)
+ *
+ * A refusal does not tell how long the spelling would be. A buffer of 16,777,216 bytes is always enough, where one is; so is one of
+ * 16 * n bytes for a stream of n bytes: no byte of a stream gives more than 16 bytes of spelling, as a byte of a word can, by the
+ * lines `H -99999999` and `c a`. (The latter tested, not proved.)
+ */
+mrkvandel_respell_result mrkvandel_respell(const uint8_t *stream, size_t stream_len, const uint8_t *widths, size_t widths_len,
+                                           uint8_t *out, size_t out_len);
 
 #ifdef __cplusplus
 }

@@ -1,14 +1,14 @@
 //! The comparison of both programs on one input.
 
-use crate::expected::{self, Expected, ExpectedFinding};
+use crate::expected::{self, Expected, ExpectedFinding, ExpectedSpelling};
 use crate::measure::{lengths, Answer, Seen};
 use crate::rows::{Item, Lent};
-use crate::{proved, Entry, FindResult, ReadResult, Record, Search};
+use crate::{proved, Entry, FindResult, ReadResult, Record, RespellResult, Search};
 use second::generate::random::Random;
 use second::refusal::Rooms;
 
 /// A call of a proved routine: its answer, and the rows that it was lent. The other row is that of
-/// the entries or of the hits.
+/// the entries, of the hits or of the spelling's bytes; a rewriter is lent no records, and has none here.
 pub struct Call<A, T> {
     pub answer: A,
     pub records: Lent<Record>,
@@ -53,6 +53,11 @@ pub fn call_find(search: Search, room: [usize; 2], random: &mut Random) -> Call<
     Call::new(room, random, |records, hits| proved::find(search, records, hits))
 }
 
+/// Calls the rewriter, with a buffer for so many bytes.
+pub fn call_respell(stream: &[u8], list: &[u8], room: usize, random: &mut Random) -> Call<RespellResult, u8> {
+    Call::new([0, room], random, |_, out| proved::respell(stream, list, out))
+}
+
 /// Reads once and compares; the answer of both.
 pub fn reading(
     stream: &[u8],
@@ -83,6 +88,20 @@ pub fn finding(search: Search, room: [usize; 2], random: &mut Random) -> Result<
     call.compare(&expected).map(|()| call.answer).map_err(message)
 }
 
+/// Rewrites once and compares; the answer of both.
+pub fn respelling(
+    stream: &[u8],
+    list: &[u8],
+    room: usize,
+    random: &mut Random,
+) -> Result<RespellResult, String> {
+    let call = call_respell(stream, list, room, random);
+    let expected = expected::respell(stream, list, Rooms { spelling: room, ..Rooms::default() });
+    let inputs = || format!("{}\n{}", shown("stream", stream), shown("list", list));
+    let message = |message| format!("{message}\nroom for {room} bytes\n{}", inputs());
+    call.compare(&expected).map(|()| call.answer).map_err(message)
+}
+
 fn shown(name: &str, bytes: &[u8]) -> String {
     let start = bytes[..bytes.len().min(6_000)].escape_ascii();
     format!("{name}, {} bytes \"{start}\"", bytes.len())
@@ -104,6 +123,21 @@ pub fn search(search: Search, random: &mut Random, seen: &mut Seen) -> Result<Ex
     seen.input(&with_any_room.answer);
     for (measure, room) in lengths(&with_any_room.answer, search.stream.len(), random) {
         seen.count(measure, &finding(search, room, random)?);
+    }
+    Ok(with_any_room)
+}
+
+/// Rewrites with buffers of every measure that there is for it; what comes where they are large enough.
+pub fn rewriting(
+    stream: &[u8],
+    list: &[u8],
+    random: &mut Random,
+    seen: &mut Seen,
+) -> Result<ExpectedSpelling, String> {
+    let with_any_room = expected::respell(stream, list, Rooms::default());
+    seen.input(&with_any_room.answer);
+    for (measure, [_, room]) in lengths(&with_any_room.answer, stream.len(), random) {
+        seen.count(measure, &respelling(stream, list, room, random)?);
     }
     Ok(with_any_room)
 }

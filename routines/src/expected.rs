@@ -1,11 +1,12 @@
 //! What the second program answers, and what it puts into the rows, in the library's structs.
 
-use crate::{Colour, Entry, FindResult, ReadResult, Record, Search};
+use crate::{Colour, Entry, FindResult, ReadResult, Record, RespellResult, Search};
 use second::refusal::{Refusal, Rooms};
 use second::{Found, Reading};
 
 /// An answer and what the rows must hold from their start; behind it they are as before. The other
-/// row holds entries (the reader's) or hits (the finder's).
+/// row holds entries (the reader's), hits (the finder's) or the bytes of the spelling (the
+/// rewriter's, which has no records).
 #[derive(Clone, Debug, PartialEq, Eq)]
 pub struct Expected<A, T> {
     pub answer: A,
@@ -15,6 +16,7 @@ pub struct Expected<A, T> {
 
 pub type ExpectedReading = Expected<ReadResult, Entry>;
 pub type ExpectedFinding = Expected<FindResult, u32>;
+pub type ExpectedSpelling = Expected<RespellResult, u8>;
 
 /// The reader, for rows of the lengths that `rooms` says.
 pub fn read(stream: &[u8], list: &[u8], rooms: Rooms) -> ExpectedReading {
@@ -70,6 +72,17 @@ fn found_all(found: &Found) -> ExpectedFinding {
     let number = |&hit: &usize| u32::try_from(hit).expect("a stream has fewer records");
     let records = found.records.iter().map(record).collect();
     Expected { answer, records, others: found.hits.iter().map(number).collect() }
+}
+
+/// The rewriter, for a buffer of the length that `rooms` says.
+pub fn respell(stream: &[u8], list: &[u8], rooms: Rooms) -> ExpectedSpelling {
+    let (answer, others) = match second::respell(stream, list, rooms) {
+        Ok(spelling) => (RespellResult { offset: 0, len: spelling.len(), refusal: 0 }, spelling),
+        Err(Refusal { number, offset }) => {
+            (RespellResult { offset, len: 0, refusal: number.into() }, Vec::new())
+        }
+    };
+    Expected { answer, records: Vec::new(), others }
 }
 
 fn colour(colour: second::Colour) -> Colour {

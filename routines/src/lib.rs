@@ -4,6 +4,7 @@
 
 pub mod agree;
 pub mod expected;
+pub mod kept;
 pub mod measure;
 pub mod proved;
 pub mod rows;
@@ -11,4 +12,4 @@ pub mod shape;
 pub mod text;
 pub mod types;
 
-pub use types::{Colour, Entry, FindResult, ReadResult, Record, Search};
+pub use types::{Colour, Entry, FindResult, ReadResult, Record, RespellResult, Search};

@@ -1,17 +1,19 @@
 //! How long the rows are that a routine is lent, against what its input needs; and the counts of
 //! what was seen.
 
-use crate::{FindResult, ReadResult};
+use crate::{FindResult, ReadResult, RespellResult};
 use second::generate::random::Random;
 use std::fmt::Debug;
 use std::io::Write;
 
-/// How the two rows of a routine are measured: the records, and the entries or hits.
+/// How the two rows of a routine are measured: the records, and the entries, hits or bytes. The
+/// rewriter has a row of bytes alone.
 #[derive(Clone, Copy, Debug, PartialEq, Eq)]
 pub enum Measure {
     ExactlyEnough,
     OneRecordTooFew,
-    OneEntryOrHitTooFew,
+    /// one entry, hit or byte
+    OneOtherTooFew,
     Nothing,
     Plenty,
     WithoutOrder,
@@ -20,7 +22,7 @@ pub enum Measure {
 pub const MEASURES: [Measure; 6] = [
     Measure::ExactlyEnough,
     Measure::OneRecordTooFew,
-    Measure::OneEntryOrHitTooFew,
+    Measure::OneOtherTooFew,
     Measure::Nothing,
     Measure::Plenty,
     Measure::WithoutOrder,
@@ -28,6 +30,9 @@ pub const MEASURES: [Measure; 6] = [
 
 /// A routine's answer.
 pub trait Answer: Copy + Debug + PartialEq {
+    /// the measures that there are for its rows
+    const MEASURES: &'static [Measure] = &MEASURES;
+
     fn refusal(&self) -> u32;
     /// how many items go into each row
     fn counts(&self) -> [usize; 2];
@@ -53,13 +58,31 @@ impl Answer for FindResult {
     }
 }
 
+impl Answer for RespellResult {
+    const MEASURES: &'static [Measure] = &[
+        Measure::ExactlyEnough,
+        Measure::OneOtherTooFew,
+        Measure::Nothing,
+        Measure::Plenty,
+        Measure::WithoutOrder,
+    ];
+
+    fn refusal(&self) -> u32 {
+        self.refusal
+    }
+
+    fn counts(&self) -> [usize; 2] {
+        [0, self.len]
+    }
+}
+
 /// A stream over so many bytes is run once only, to save time.
 const LONG: usize = 1_000_000;
 
 /// The lengths of both rows by every measure that there is for an input: a stream of this length,
 /// with this answer where the rows are large enough.
-pub fn lengths(answer: &impl Answer, stream: usize, random: &mut Random) -> Vec<(Measure, [usize; 2])> {
-    let measures = if stream > LONG { &[Measure::Plenty][..] } else { &MEASURES };
+pub fn lengths<A: Answer>(answer: &A, stream: usize, random: &mut Random) -> Vec<(Measure, [usize; 2])> {
+    let measures = if stream > LONG { &[Measure::Plenty] } else { A::MEASURES };
     let by = |&measure| Some((measure, measured(measure, answer, random)?));
     measures.iter().filter_map(by).collect()
 }
@@ -75,7 +98,7 @@ fn measured(measure: Measure, answer: &impl Answer, random: &mut Random) -> Opti
     Some(match measure {
         Measure::ExactlyEnough => [records, others],
         Measure::OneRecordTooFew => [records.checked_sub(1)?, others + random.below(3)],
-        Measure::OneEntryOrHitTooFew => [records + random.below(3), others.checked_sub(1)?],
+        Measure::OneOtherTooFew => [records + random.below(3), others.checked_sub(1)?],
         Measure::Nothing => [0, 0],
         Measure::Plenty => [records + 1 + random.below(20), others + 1 + random.below(20)],
         Measure::WithoutOrder => {
@@ -89,6 +112,8 @@ fn measured(measure: Measure, answer: &impl Answer, random: &mut Random) -> Opti
 #[derive(Clone, Debug, Default, PartialEq, Eq)]
 pub struct Seen {
     pub inputs: u64,
+    /// the measures that the routine's rows have
+    measures: &'static [Measure],
     /// accepted inputs that need no room at all
     pub needless: u64,
     pub answers: [[u64; 14]; 6],
@@ -96,8 +121,9 @@ pub struct Seen {
 
 impl Seen {
     /// An input, by its answer where the rows are large enough.
-    pub fn input(&mut self, answer: &impl Answer) {
+    pub fn input<A: Answer>(&mut self, answer: &A) {
         self.inputs += 1;
+        self.measures = A::MEASURES;
         self.needless += u64::from(answer.refusal() == 0 && answer.counts() == [0, 0]);
     }
 
@@ -124,7 +150,7 @@ impl Seen {
             "{label}: {inputs} inputs, {runs} runs, {accepted} accepted, refused {}",
             counts.join(", ")
         ));
-        MEASURES.iter().for_each(|&measure| self.assert_measure(label, measure, least));
+        self.measures.iter().for_each(|&measure| self.assert_measure(label, measure, least));
         for number in 1..=13 {
             let times = self.times(number);
             let is_due = refusals.contains(&number);
@@ -138,7 +164,7 @@ impl Seen {
         say(&format!("  {measure:?}: {all} runs, {accepted} accepted, {no_room} without room"));
         let is_as_it_says = match measure {
             Measure::ExactlyEnough | Measure::Plenty => accepted >= least && no_room == 0,
-            Measure::OneRecordTooFew | Measure::OneEntryOrHitTooFew => no_room >= least && no_room == all,
+            Measure::OneRecordTooFew | Measure::OneOtherTooFew => no_room >= least && no_room == all,
             Measure::Nothing => no_room >= least && accepted <= self.needless,
             Measure::WithoutOrder => no_room >= least && accepted >= least,
         };

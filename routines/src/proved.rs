@@ -1,9 +1,9 @@
 //! The proved code, through the static library of `crates/capi`.
 
 use crate::text::{found_text, glyphs_text};
-use crate::{Entry, FindResult, ReadResult, Record, Search};
-use second::refusal::{Refusal, Rooms};
-use second::vectors::{Check, Program, Routine};
+use crate::{Entry, FindResult, ReadResult, Record, RespellResult, Search};
+use second::refusal::{Refusal, Rooms, SPELLING_LIMIT};
+use second::vectors::Program;
 
 // A slice crosses as its pointer and its length. The functions have no `requires`: every slice will
 // do. Rust lets no `&mut` slice overlap another one.
@@ -31,6 +31,15 @@ extern "C" {
         hits: *mut u32,
         hits_len: usize,
     ) -> FindResult;
+
+    fn mrkvandel_respell(
+        stream: *const u8,
+        stream_len: usize,
+        widths: *const u8,
+        widths_len: usize,
+        out: *mut u8,
+        out_len: usize,
+    ) -> RespellResult;
 }
 
 /// Reads a stream with its width list into the rows.
@@ -71,19 +80,22 @@ pub fn find(search: Search, records: &mut [Record], hits: &mut [u32]) -> FindRes
     }
 }
 
-/// The routines that the library has.
-pub const ROUTINES: [Routine; 2] = [Routine::Reader, Routine::Finder];
-
-/// The routine that a check of a vector is about.
-pub fn routine_of(check: &Check) -> Routine {
-    match check {
-        Check::Answer(routine, _) | Check::Text(routine, _) => *routine,
-        Check::Has(_) => Routine::Reader,
+/// Rewrites a stream with its width list in the house spelling, which goes into the buffer.
+pub fn respell(stream: &[u8], widths: &[u8], out: &mut [u8]) -> RespellResult {
+    // SAFETY: as for `read`
+    unsafe {
+        mrkvandel_respell(
+            stream.as_ptr(),
+            stream.len(),
+            widths.as_ptr(),
+            widths.len(),
+            out.as_mut_ptr(),
+            out.len(),
+        )
     }
 }
 
-/// The library as a program that answers texts, for the vectors. Checks of a routine that is not
-/// among `ROUTINES` are to be left out.
+/// The library as a program that answers texts, for the vectors.
 pub struct Proved;
 
 /// Rows of at most so many stand for unlimited room in a vector: a stream of n bytes needs at most n
@@ -101,8 +113,14 @@ impl Program for Proved {
         }
     }
 
-    fn respell(&self, _: &[u8], _: &[u8], _: Rooms) -> Result<Vec<u8>, Refusal> {
-        unimplemented!("the library has no rewriter yet")
+    fn respell(&self, stream: &[u8], list: &[u8], rooms: Rooms) -> Result<Vec<u8>, Refusal> {
+        // no longer spelling is ever written
+        let mut out = vec![0; rooms.spelling.min(SPELLING_LIMIT)];
+        let answer = respell(stream, list, &mut out);
+        match answer.refusal {
+            0 => Ok(out[..answer.len].to_vec()),
+            number => Err(refusal(number, answer.offset)),
+        }
     }
 
     fn find(&self, stream: &[u8], list: &[u8], query: &[u8], rooms: Rooms) -> Result<Vec<u8>, Refusal> {

@@ -4,15 +4,15 @@ use crate::{Entry, Record};
 use second::generate::random::Random;
 use std::fmt::Debug;
 
-/// How many items stand before a lent row, and how many behind it.
-pub const GUARD: usize = 4;
-
 /// What a row is made of.
 pub trait Item: Copy + Debug + PartialEq {
     /// What a row of them is called.
     const ROW: &'static str;
+    /// How many of them stand before a lent row, and how many behind it.
+    const GUARD: usize = 4;
 
-    /// An item of numbers without order, which no routine would write.
+    /// An item of numbers without order. No routine would write it, a byte aside, which may be just
+    /// the one that is written: once in 256 times a touched byte is not seen.
     fn without_order(random: &mut Random) -> Self;
 }
 
@@ -63,6 +63,16 @@ impl Item for u32 {
     }
 }
 
+/// A byte of the rewriter's buffer.
+impl Item for u8 {
+    const ROW: &'static str = "bytes";
+    const GUARD: usize = 64;
+
+    fn without_order(random: &mut Random) -> u8 {
+        random.byte()
+    }
+}
+
 /// A row to be lent, with its guards, and what all of it held before.
 pub struct Lent<T> {
     before: Vec<T>,
@@ -72,28 +82,33 @@ pub struct Lent<T> {
 
 impl<T: Item> Lent<T> {
     pub fn new(room: usize, random: &mut Random) -> Lent<T> {
-        let before: Vec<T> = (0..room + 2 * GUARD).map(|_| T::without_order(random)).collect();
+        let before: Vec<T> = (0..room + 2 * T::GUARD).map(|_| T::without_order(random)).collect();
         Lent { whole: before.clone(), before }
     }
 
     /// The row that is lent.
     pub fn row(&mut self) -> &mut [T] {
-        let end = self.whole.len() - GUARD;
-        &mut self.whole[GUARD..end]
+        let end = self.whole.len() - T::GUARD;
+        &mut self.whole[T::GUARD..end]
+    }
+
+    /// How many items the row has.
+    pub fn room(&self) -> usize {
+        self.whole.len() - 2 * T::GUARD
     }
 
     /// `Ok` where the row begins with `filled` and all behind that, and both guards, are as before;
     /// else the first item that differs.
     pub fn holds(&self, filled: &[T]) -> Result<(), String> {
-        let end = self.whole.len() - GUARD;
-        if filled.len() > end - GUARD {
-            return Err(format!("{}, {} items are due in a row of {}", T::ROW, filled.len(), end - GUARD));
+        let end = self.whole.len() - T::GUARD;
+        if filled.len() > end - T::GUARD {
+            return Err(format!("{}, {} items are due in a row of {}", T::ROW, filled.len(), end - T::GUARD));
         }
         for (place, (now, before)) in self.whole.iter().zip(&self.before).enumerate() {
-            let due = place.checked_sub(GUARD).and_then(|number| filled.get(number)).unwrap_or(before);
+            let due = place.checked_sub(T::GUARD).and_then(|number| filled.get(number)).unwrap_or(before);
             if now != due {
-                let number = place as i64 - GUARD as i64;
-                let lies = if (GUARD..end).contains(&place) { "in the row" } else { "in a guard" };
+                let number = place as i64 - T::GUARD as i64;
+                let lies = if (T::GUARD..end).contains(&place) { "in the row" } else { "in a guard" };
                 let row = T::ROW;
                 return Err(format!("{row}, item {number}, {lies}:\nproved   {now:?}\nexpected {due:?}"));
             }

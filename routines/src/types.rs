@@ -1,6 +1,6 @@
 //! The structs that cross to the library, field for field as in `../include/mrkvandel.h`, which
 //! says what each holds. Those of which rows are made have no padding, so that fields that are equal
-//! are bytes that are. (A hit is a `u32`.)
+//! are bytes that are. (A hit is a `u32`, a place of the rewriter's buffer a `u8`.)
 
 /// A glyph record.
 #[repr(C)]
@@ -62,6 +62,15 @@ pub struct FindResult {
     pub offset: usize,
     pub records: usize,
     pub hits: usize,
+    pub refusal: u32,
+}
+
+/// The rewriter's answer; `refusal` is 0 where the stream is accepted.
+#[repr(C)]
+#[derive(Clone, Copy, Debug, Default, PartialEq, Eq)]
+pub struct RespellResult {
+    pub offset: usize,
+    pub len: usize,
     pub refusal: u32,
 }
 

@@ -3,7 +3,7 @@
 
 use routines::agree;
 use routines::measure::{say, Seen};
-use routines::proved::{self, routine_of, Proved, ROUTINES};
+use routines::proved::{self, Proved};
 use routines::{expected, shape, Colour, Entry, ReadResult, Record};
 use second::generate;
 use second::generate::random::Random;
@@ -23,28 +23,14 @@ fn vector_cases() -> Vec<Case> {
     vectors::all_cases().expect("the vectors can be read")
 }
 
-/// Runs the checks of a case that are about a routine of the library; how many these are, and how
-/// many are left out.
-fn run_checks(mut case: Case) -> Result<[usize; 2], String> {
-    let all = case.checks.len();
-    case.checks.retain(|check| ROUTINES.contains(&routine_of(check)));
-    vectors::run(&case, &Proved).map(|()| [case.checks.len(), all - case.checks.len()])
-}
-
 #[test]
 fn vectors_hold() {
-    let (mut cases, mut made, mut left_out) = (0, 0, 0);
-    let mut failures = Vec::new();
-    for case in vector_cases() {
-        cases += 1;
-        match run_checks(case) {
-            Ok(counts) => (made, left_out) = (made + counts[0], left_out + counts[1]),
-            Err(message) => failures.push(message),
-        }
-    }
+    let cases = vector_cases();
+    let failures: Vec<String> = cases.iter().filter_map(|case| vectors::run(case, &Proved).err()).collect();
     assert!(failures.is_empty(), "{} cases fail\n{}", failures.len(), failures.join("\n"));
-    say(&format!("vectors: {cases} cases, {made} checks made; left out {left_out}, of the rewriter"));
-    assert!(cases >= 958 && made >= 1_007, "vectors are missing");
+    let checks: usize = cases.iter().map(|case| case.checks.len()).sum();
+    say(&format!("vectors: {} cases, {checks} checks", cases.len()));
+    assert!(cases.len() >= 958 && checks >= 1_700, "vectors are missing");
 }
 
 /// Every vector's stream, with rows of every measure.

@@ -1,18 +1,19 @@
 //! The comparison itself: whatever is wrong, anywhere, is reported.
 
-use routines::agree::{call_find, call_read, Call};
+use routines::agree::{call_find, call_read, call_respell, Call};
 use routines::expected::{self, Expected};
 use routines::measure::Answer;
 use routines::proved::Proved;
-use routines::rows::{Item, GUARD};
-use routines::{Entry, FindResult, ReadResult, Record, Search};
+use routines::rows::{Item, Lent};
+use routines::{Entry, FindResult, ReadResult, Record, RespellResult, Search};
 use second::generate::random::Random;
 use second::refusal::Rooms;
 use second::vectors::{run_all, BODY_HEAD, BODY_TAIL, SAMPLE_LIST};
 
-/// Rows that are not full: two records of five, and six entries or one hit of nine.
+/// Rows that are not full: two records of five, and six entries or one hit of nine; 84 bytes of 100.
 const ROOM: [usize; 2] = [5, 9];
-const ROOMS: Rooms = Rooms { records: ROOM[0], entries: ROOM[1], hits: ROOM[1], spelling: 0 };
+const BUFFER: usize = 100;
+const ROOMS: Rooms = Rooms { records: ROOM[0], entries: ROOM[1], hits: ROOM[1], spelling: BUFFER };
 
 /// A call that is right, and what is expected of it.
 type Case<A, T> = (Call<A, T>, Expected<A, T>);
@@ -29,6 +30,12 @@ fn find(body: &[u8]) -> Case<FindResult, u32> {
     (call_find(search, ROOM, &mut Random::new(0)), expected::find(search, ROOMS))
 }
 
+fn respell(body: &[u8]) -> Case<RespellResult, u8> {
+    let stream = [BODY_HEAD, body, BODY_TAIL].concat();
+    let call = call_respell(&stream, SAMPLE_LIST, BUFFER, &mut Random::new(0));
+    (call, expected::respell(&stream, SAMPLE_LIST, ROOMS))
+}
+
 /// What is reported where `edit` makes something wrong in a case that is right.
 fn report<A: Answer, T: Item>(
     case: Case<A, T>,
@@ -41,6 +48,8 @@ fn report<A: Answer, T: Item>(
 }
 
 const BODY: &[u8] = b"tab\nDFr 1 2 3\n";
+/// How many bytes its spelling has.
+const SPELT: usize = 84;
 
 /// An edit of the answer, and the same edit of what is expected.
 fn assert_answer_is_reported<A: Answer, T: Item>(case: impl Fn() -> Case<A, T>, edit: fn(&mut A)) {
@@ -74,6 +83,20 @@ fn a_wrong_answer_is_reported() {
         |answer| answer.refusal += 1,
     ];
     wrong.into_iter().for_each(|edit| assert_answer_is_reported(|| find(BODY), edit));
+    let wrong: [fn(&mut RespellResult); 4] = [
+        |answer| answer.offset += 1,
+        |answer| answer.len += 1,
+        |answer| answer.len -= 1,
+        |answer| answer.refusal += 1,
+    ];
+    wrong.into_iter().for_each(|edit| assert_answer_is_reported(|| respell(BODY), edit));
+    let wrong: [fn(&mut RespellResult); 4] = [
+        |answer| answer.offset += 1,
+        |answer| answer.offset = 0,
+        |answer| answer.len = BUFFER,
+        |answer| answer.refusal = 13,
+    ];
+    wrong.into_iter().for_each(|edit| assert_answer_is_reported(|| respell(b"q"), edit));
 }
 
 /// Each number of a record.
@@ -127,9 +150,26 @@ fn a_wrong_entry_or_hit_is_reported() {
     }
 }
 
+/// Each byte of a spelling, in each of its bits.
+#[test]
+fn a_wrong_byte_is_reported() {
+    assert_eq!(respell(BODY).0.answer.len, SPELT);
+    for number in 0..SPELT {
+        for bit in 0..8 {
+            let message = report(respell(BODY), |call, _| call.others.row()[number] ^= 1 << bit);
+            assert!(message.starts_with(&format!("bytes, item {number}, in the row:")), "{message}");
+        }
+    }
+}
+
 /// The places of a row and its guards that are to stay as they were, where `filled` are not.
-fn kept(filled: usize, room: usize) -> impl Iterator<Item = usize> {
-    (0..room + 2 * GUARD).filter(move |place| !(GUARD..GUARD + filled).contains(place))
+fn kept<T: Item>(filled: usize, row: &Lent<T>) -> impl Iterator<Item = usize> {
+    (0..row.whole.len()).filter(move |place| !(T::GUARD..T::GUARD + filled).contains(place))
+}
+
+/// What a message about a place, counted with the guard before the row, begins with.
+fn named<T: Item>(place: usize) -> String {
+    format!("{}, item {},", T::ROW, place as i64 - T::GUARD as i64)
 }
 
 /// A touched place of either row is reported, where so many of each are filled.
@@ -138,14 +178,14 @@ fn assert_touches_are_reported<A: Answer, T: Item>(
     filled: [usize; 2],
     touch: fn(&mut T),
 ) {
-    let item = |place: usize| format!("item {},", place as i64 - GUARD as i64);
-    for place in kept(filled[0], ROOM[0]) {
+    let (call, _) = case();
+    for place in kept(filled[0], &call.records) {
         let message = report(case(), |call, _| call.records.whole[place].gap ^= 1);
-        assert!(message.starts_with(&format!("records, {}", item(place))), "{message}");
+        assert!(message.starts_with(&named::<Record>(place)), "{message}");
     }
-    for place in kept(filled[1], ROOM[1]) {
+    for place in kept(filled[1], &call.others) {
         let message = report(case(), |call, _| touch(&mut call.others.whole[place]));
-        assert!(message.starts_with(&format!("{}, {}", T::ROW, item(place))), "{message}");
+        assert!(message.starts_with(&named::<T>(place)), "{message}");
     }
 }
 
@@ -157,9 +197,11 @@ fn a_touched_place_is_reported() {
     assert_touches_are_reported(|| read(b"q"), [0, 0], |entry| entry.h ^= 1);
     assert_touches_are_reported(|| find(BODY), [2, 1], |hit| *hit ^= 1);
     assert_touches_are_reported(|| find(b"q"), [0, 0], |hit| *hit ^= 1);
+    assert_touches_are_reported(|| respell(BODY), [0, SPELT], |byte| *byte ^= 1);
+    assert_touches_are_reported(|| respell(b"q"), [0, 0], |byte| *byte ^= 1);
 }
 
-/// A record, entry or hit too few or too many.
+/// A record, entry, hit or byte too few or too many.
 #[test]
 fn a_wrong_number_of_items_is_reported() {
     report(read(BODY), |_, expected| expected.records.truncate(1));
@@ -174,6 +216,10 @@ fn a_wrong_number_of_items_is_reported() {
     assert_eq!(message, "records, 6 items are due in a row of 5");
     let message = report(find(BODY), |_, expected| expected.others.resize(10, 1));
     assert_eq!(message, "hits, 10 items are due in a row of 9");
+    report(respell(BODY), |_, expected| expected.others.truncate(SPELT - 1));
+    report(respell(BODY), |_, expected| expected.others.push(b'\n'));
+    let message = report(respell(BODY), |_, expected| expected.others.resize(101, b'\n'));
+    assert_eq!(message, "bytes, 101 items are due in a row of 100");
 }
 
 /// A vector with a wrong expectation.
@@ -195,6 +241,13 @@ fn a_wrong_vector_is_reported() {
         "body ca\nquery glyph=a\nfinder ok",
         "body ca\nquery glyph=a\\n\nhits 0\nfinder ok",
         "body ca\nquery glyph=a\\n\nhits 1\nrecords 1\nfinder refused 13 0",
+        "body ca\nspelt c b\\nx s\\n",
+        "body ca\nspelt c a\\nx s",
+        "body ca\nspelling 10\nrewriter ok",
+        "body ca\nspelling 1000\nrewriter refused 13 0",
+        "body q\nrewriter ok",
+        "body q\nrewriter refused 3 1",
+        "body q\nrewriter refused 13 0",
     ];
     for lines in wrong {
         let message = run_all(&format!("case wrong-one\n{lines}\n"), &Proved).unwrap_err();

@@ -1,7 +1,7 @@
 //! `include/mrkvandel.h` and this package's structs agree with each other and with the Rattle source,
 //! and the library can be called from C. It needs a C and a C++ compiler, `cc` and `c++`.
 
-use routines::{Colour, Entry, FindResult, ReadResult, Record};
+use routines::{Colour, Entry, FindResult, ReadResult, Record, RespellResult};
 use second::generate::{case, search::search, Case};
 use second::print::{found_text, glyphs_text, refusal_text};
 use second::refusal::{self, Refusal, Rooms};
@@ -44,17 +44,18 @@ macro_rules! layout {
 }
 
 /// The structs, each with its fields in their order.
-fn layouts() -> [Layout; 5] {
+fn layouts() -> [Layout; 6] {
     [
         layout!(Record as mrkvandel_record: ordinal page h v font size place len index gap),
         layout!(Entry as mrkvandel_entry: command letter scheme ordinal place len h v),
         layout!(Colour as mrkvandel_colour: scheme parts),
         layout!(ReadResult as mrkvandel_read_result: offset records entries refusal pages h v glyph fill),
         layout!(FindResult as mrkvandel_find_result: offset records hits refusal),
+        layout!(RespellResult as mrkvandel_respell_result: offset len refusal),
     ]
 }
 
-const VALUES: [(&str, usize); 17] = [
+const VALUES: [(&str, usize); 18] = [
     ("ACCEPTED", 0),
     ("TOO_LONG", refusal::TOO_LONG as usize),
     ("WIDTH_LIST", refusal::WIDTH_LIST as usize),
@@ -72,6 +73,7 @@ const VALUES: [(&str, usize); 17] = [
     ("STREAM_LIMIT", refusal::STREAM_LIMIT),
     ("LIST_LIMIT", refusal::LIST_LIMIT),
     ("QUERY_LIMIT", refusal::QUERY_LIMIT),
+    ("SPELLING_LIMIT", refusal::SPELLING_LIMIT),
 ];
 
 fn in_repository(path: &str) -> PathBuf {
@@ -265,6 +267,15 @@ fn the_finder_can_be_called_from_c_and_cplusplus() {
     }
     let has_hit = |seed: &u64| text(&search(*seed)).is_ok_and(|text| text.starts_with(b"hit"));
     assert!((0..100).filter(has_hit).count() >= 20, "few searches hit");
+}
+
+#[test]
+fn the_rewriter_can_be_called_from_c_and_cplusplus() {
+    let text: Text = |case| second::respell(&case.stream, &case.list, Rooms::default());
+    for compiler in [C, CPLUSPLUS] {
+        let accepted = count_agreed(compiler, "respell", case, 2, text);
+        assert!((10..90).contains(&accepted), "{accepted} of 100 streams are accepted");
+    }
 }
 
 /// The indented lines of README.md's example: its commands, and what they are said to print.

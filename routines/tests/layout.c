@@ -66,6 +66,10 @@ static void print_colour_and_answers(void) {
     NUMBER(mrkvandel_find_result, records);
     NUMBER(mrkvandel_find_result, hits);
     NUMBER(mrkvandel_find_result, refusal);
+    SIZE(mrkvandel_respell_result);
+    NUMBER(mrkvandel_respell_result, offset);
+    NUMBER(mrkvandel_respell_result, len);
+    NUMBER(mrkvandel_respell_result, refusal);
 }
 
 static void print_values(void) {
@@ -86,6 +90,7 @@ static void print_values(void) {
     VALUE(MRKVANDEL_STREAM_LIMIT);
     VALUE(MRKVANDEL_LIST_LIMIT);
     VALUE(MRKVANDEL_QUERY_LIMIT);
+    VALUE(MRKVANDEL_SPELLING_LIMIT);
 }
 
 int main(void) {
