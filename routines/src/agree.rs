@@ -102,7 +102,7 @@ pub fn respelling(
     call.compare(&expected).map(|()| call.answer).map_err(message)
 }
 
-fn shown(name: &str, bytes: &[u8]) -> String {
+pub(crate) fn shown(name: &str, bytes: &[u8]) -> String {
     let start = bytes[..bytes.len().min(6_000)].escape_ascii();
     format!("{name}, {} bytes \"{start}\"", bytes.len())
 }

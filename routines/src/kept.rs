@@ -1,7 +1,9 @@
 //! What a spelling keeps, by the library's own reader and rewriter: read, it gives what its stream
 //! gives; respelt, it gives itself.
 
-use crate::{proved, Entry, ReadResult, Record};
+use crate::agree::shown;
+use crate::{expected, proved, Entry, ReadResult, Record};
+use second::refusal::Rooms;
 use second::same::same_entries;
 
 /// What a stream gives that is accepted.
@@ -12,25 +14,29 @@ struct Reading<'a> {
     entries: Vec<Entry>,
 }
 
-/// The spelling's length is the room that is enough for it. `Ok` where the spelling keeps all of the
-/// stream, else what it does not keep.
+/// `Ok` where the spelling keeps all of an accepted stream, else what it does not keep. Stream and
+/// spelling are read into rows of exactly what the stream needs, and the spelling is respelt into a
+/// buffer of its own length.
 pub fn keeps_all(stream: &[u8], list: &[u8], spelling: &[u8]) -> Result<(), String> {
-    compare(&read(stream, list)?, &read(spelling, list)?)?;
+    let ReadResult { records, entries, .. } = expected::read(stream, list, Rooms::default()).answer;
+    let room = [records, entries];
+    compare(&read(stream, list, room)?, &read(spelling, list, room)?)?;
     let mut again = vec![0; spelling.len()];
     let answer = proved::respell(spelling, list, &mut again);
     let is_same = answer.refusal == 0 && answer.len == spelling.len() && again == spelling;
     is_same.then_some(()).ok_or_else(|| {
-        let (first, again) = (spelling.escape_ascii(), again.escape_ascii());
-        format!("respelt again: {answer:?}\nat first {first}\nagain    {again}")
+        let place = again.iter().zip(spelling).position(|(now, first)| now != first);
+        let texts = [("at first", spelling), ("again", &again)].map(|(name, text)| shown(name, text));
+        format!("respelt again: {answer:?}, first other byte {place:?}\n{}", texts.join("\n"))
     })
 }
 
-fn read<'a>(stream: &'a [u8], list: &[u8]) -> Result<Reading<'a>, String> {
-    let mut records = vec![Record::default(); stream.len()];
-    let mut entries = vec![Entry::default(); stream.len() / 2];
+fn read<'a>(stream: &'a [u8], list: &[u8], room: [usize; 2]) -> Result<Reading<'a>, String> {
+    let mut records = vec![Record::default(); room[0]];
+    let mut entries = vec![Entry::default(); room[1]];
     let answer = proved::read(stream, list, &mut records, &mut entries);
     if answer.refusal != 0 {
-        return Err(format!("read again: {answer:?}\n{}", stream.escape_ascii()));
+        return Err(format!("read: {answer:?}\n{}", shown("stream or spelling", stream)));
     }
     records.truncate(answer.records);
     entries.truncate(answer.entries);

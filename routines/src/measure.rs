@@ -116,6 +116,8 @@ pub struct Seen {
     measures: &'static [Measure],
     /// accepted inputs that need no room at all
     pub needless: u64,
+    /// inputs whose spelling is too long for any room
+    pub hopeless: u64,
     pub answers: [[u64; 14]; 6],
 }
 
@@ -125,6 +127,7 @@ impl Seen {
         self.inputs += 1;
         self.measures = A::MEASURES;
         self.needless += u64::from(answer.refusal() == 0 && answer.counts() == [0, 0]);
+        self.hopeless += u64::from(answer.refusal() == 13);
     }
 
     pub fn count(&mut self, measure: Measure, answer: &impl Answer) {
@@ -163,7 +166,8 @@ impl Seen {
         let (all, accepted, no_room) = (counts.iter().sum::<u64>(), counts[0], counts[13]);
         say(&format!("  {measure:?}: {all} runs, {accepted} accepted, {no_room} without room"));
         let is_as_it_says = match measure {
-            Measure::ExactlyEnough | Measure::Plenty => accepted >= least && no_room == 0,
+            Measure::ExactlyEnough => accepted >= least && no_room == 0,
+            Measure::Plenty => accepted >= least && no_room == self.hopeless,
             Measure::OneRecordTooFew | Measure::OneOtherTooFew => no_room >= least && no_room == all,
             Measure::Nothing => no_room >= least && accepted <= self.needless,
             Measure::WithoutOrder => no_room >= least && accepted >= least,

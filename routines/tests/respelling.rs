@@ -174,9 +174,9 @@ fn spellings_by_hand() {
         (b"h3Dl-5-3\nH-2V-3ca", "H 3/Dl -5 -3/c a/x s/"),
         (b"D l 1 2#\nDc 4 5\nDe 6 7\nDt 8\ncaH11V2", "Dl 1 2/Dc 4/De 6 7/Dt 8/c a/x s/"),
         (b"v1DFd\nm d DF k 1 02 3 0\nDf-1", "V 1/DFd/md/DFk 1 2 3 0/Df -1/x s/"),
-        (b"D~1 2 3 4 5 6\nh1ca", "D~ 1 2 3 4 5 6/H 10/c a/V 12/x s/"),
+        (b"D~1 2 3 4 5 6\nh1ca", "D~ 1 2 3 4 5 6/H 10/c a/x s/"),
         // controls
-        (b"x  font 002 TR # c\nxFile a#b\nxuuu 01\nx H-0\nxp", "x f 2 TR/x F a#b/x u 1/x H 0/x p/x s/"),
+        (b"x  font 002 TR # c\nxFile a#b\nxuuu 01\nx H -0\nxp", "x f 2 TR/x F a#b/x u 1/x H 0/x p/x s/"),
         // texts
         (b"h1x X \t a  b #c \nx X\n+d\n+ e\nxXtra\n", "H 1/x X a  b #c /x X/+d/+ e/x X/x s/"),
         (b"x X\t \n++", "x X/++/x s/"),
@@ -262,11 +262,10 @@ fn spellings_at_the_limit() {
 
     let mut out = vec![0; SPELLING_LIMIT];
     proved::respell(&fits, LIST_OF_NOTHING, &mut out);
-    keeps_all(&fits, LIST_OF_NOTHING, &out).unwrap_or_else(|message| panic!("{}", &message[..1_000]));
+    keeps_all(&fits, LIST_OF_NOTHING, &out).unwrap_or_else(|message| panic!("{message}"));
 
-    // from the longest stream, of words and of one that is spelt already but for its `x res`
-    let long = widest(STREAM_LIMIT - widest(0, b"").len(), b"");
-    assert_eq!((long.len(), answer(&long, SPELLING_LIMIT + 1)), (STREAM_LIMIT, (13, 0, 0)));
+    // of glyphs, three times the limit; and from the longest stream
+    assert_eq!(answer(&widest(3 * SPELLING_LIMIT / 16, b""), SPELLING_LIMIT + 1), (13, 0, 0));
     let spaces = body(&b"w".repeat(STREAM_LIMIT - body(b"").len()));
     assert_eq!((spaces.len(), answer(&spaces, SPELLING_LIMIT + 1)), (STREAM_LIMIT, (13, 0, 0)));
 }
@@ -300,7 +299,7 @@ fn the_room_that_is_enough() {
         let part = length(&stream) - length(&body(start));
         assert!(part <= most * 1_000 * command.len(), "{}: {part}", command.escape_ascii());
     }
-    let shortest = b"xTa\nxr1 1 1\nxi\nxs";
+    let shortest = b"xT a\nxr 1 1 1\nxi\nxs";
     assert_eq!(spelling(shortest, b"unitwidth=1\n"), b"x T a\nx r 1 1 1\nx i\nx s\n");
 }
 
@@ -330,5 +329,5 @@ fn assert_exact_room(stream: &[u8], list: &[u8], least: usize) {
     assert_eq!(respelt(stream, list, length), RespellResult { offset: 0, len: length, refusal: 0 });
     assert_eq!(respelt(stream, list, length - 1).refusal, 13);
     assert_eq!(respelt(&spelling, list, length).refusal, 0);
-    keeps_all(stream, list, &spelling).unwrap_or_else(|message| panic!("{}", &message[..1_000]));
+    keeps_all(stream, list, &spelling).unwrap_or_else(|message| panic!("{message}"));
 }
