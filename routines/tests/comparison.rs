@@ -2,6 +2,7 @@
 
 use routines::agree::{call_find, call_read, call_respell, Call};
 use routines::expected::{self, Expected};
+use routines::kept::keeps_all;
 use routines::measure::Answer;
 use routines::proved::Proved;
 use routines::rows::{Item, Lent};
@@ -31,9 +32,12 @@ fn find(body: &[u8]) -> Case<FindResult, u32> {
 }
 
 fn respell(body: &[u8]) -> Case<RespellResult, u8> {
-    let stream = [BODY_HEAD, body, BODY_TAIL].concat();
-    let call = call_respell(&stream, SAMPLE_LIST, BUFFER, &mut Random::new(0));
-    (call, expected::respell(&stream, SAMPLE_LIST, ROOMS))
+    respell_in(&[BODY_HEAD, body, BODY_TAIL].concat(), BUFFER)
+}
+
+fn respell_in(stream: &[u8], room: usize) -> Case<RespellResult, u8> {
+    let call = call_respell(stream, SAMPLE_LIST, room, &mut Random::new(0));
+    (call, expected::respell(stream, SAMPLE_LIST, Rooms { spelling: room, ..ROOMS }))
 }
 
 /// What is reported where `edit` makes something wrong in a case that is right.
@@ -220,6 +224,53 @@ fn a_wrong_number_of_items_is_reported() {
     report(respell(BODY), |_, expected| expected.others.push(b'\n'));
     let message = report(respell(BODY), |_, expected| expected.others.resize(101, b'\n'));
     assert_eq!(message, "bytes, 101 items are due in a row of 100");
+}
+
+/// A spelling with something else in it than its stream has, and one that is not in the house spelling.
+#[test]
+fn a_spelling_that_does_not_keep_all_is_reported() {
+    let body = b"tab\nw C'e\nN5 mg 7 Dl 1 2\nDFr 1 2 3\nDc 5 6\nx X te xt\n+ more\nx F na\nh9";
+    let stream = [BODY_HEAD, body, BODY_TAIL].concat();
+    let (_, expected) = respell_in(&stream, 1_000);
+    let spelling = String::from_utf8(expected.others).expect("a spelling in ASCII");
+    assert_eq!(keeps_all(&stream, SAMPLE_LIST, spelling.as_bytes()), Ok(()));
+    let edits = [
+        ("p 1", "p 2", "record 0"),
+        ("s 10000", "s 10001", "record 0"),
+        ("c a", "c c", "record 0"),
+        ("H 440", "H 441", "record 1"),
+        ("C 'e", "C 'f", "record 2"),
+        ("w\n", "", "record 2"),
+        ("N 5", "N 6", "record 3"),
+        ("mg 7", "mg 8", "read again: "),
+        ("N 5\n", "", "read again: "),
+        ("Dl 1 2", "Dl 2 2", "entry"),
+        ("DFr 1 2 3", "DFr 1 2 4", "read again: "),
+        ("DFr 1 2 3\n", "DFr 1 2 4\nDFr 1 2 3\n", "read: "),
+        ("Dc 5", "De 5 0", "entry"),
+        ("x F na", "x F nb", "entry"),
+        ("x r 72000 1 1", "x r 72000 1 2", "entry 1"),
+        ("te xt", "te  xt", "entry"),
+        ("+ more", "+more", "entry"),
+        ("x s\n", "", "read: "),
+        ("x s\n", "p 3\nx s\n", "read again: "),
+        ("c a", "c  a", "respelt again: "),
+        ("w\n", "w\nw\n", ""),
+        ("x s\n", "x s", "respelt again: "),
+        ("x s\n", "x s\n\n", "respelt again: "),
+        ("f 1\n", "f 1\n#c\n", "respelt again: "),
+        ("Dc 5", "Dc 5 6", "respelt again: "),
+    ];
+    for (from, to, part) in edits {
+        let wrong = spelling.replacen(from, to, 1);
+        assert_ne!(wrong, spelling, "{from}");
+        let came = keeps_all(&stream, SAMPLE_LIST, wrong.as_bytes());
+        match part {
+            // what is spelt otherwise, and is a spelling all the same
+            "" => assert_eq!(came, Ok(()), "{from}"),
+            _ => assert!(came.as_ref().is_err_and(|message| message.contains(part)), "{from}: {came:?}"),
+        }
+    }
 }
 
 /// A vector with a wrong expectation.
