@@ -1,11 +1,11 @@
-//! The speed of the proved reader and finder beside that of the second program, in one run, on
+//! The speed of the proved reader, finder and rewriter beside that of the second program, in one run, on
 //! streams of the shape that troff writes. README.md says what each line measures.
 
 use routines::{expected, proved, shape, Entry, Record, Search};
 use second::find::{occurrences, read_query};
 use second::generate::random::Random;
 use second::read::Walk;
-use second::refusal::Rooms;
+use second::refusal::{Rooms, SPELLING_LIMIT};
 use second::widths::read_list;
 use std::mem::size_of;
 use std::time::{Duration, Instant};
@@ -13,10 +13,12 @@ use std::time::{Duration, Instant};
 /// 1, 4, 8 and just under 16 MB: 16,777,216 bytes are 01's limit.
 const SIZES: [usize; 4] = [1_000_000, 4_000_000, 8_000_000, 16_000_000];
 const ROUNDS: usize = 7;
+/// Beyond 4 MB the spelling of such a stream is over 01's limit of 16,777,216 bytes.
+const MOST_TO_RESPELL: usize = 4_000_000;
 /// One that occurs, and one whose last glyph no stream of this shape has.
 const QUERIES: [&[u8]; 2] = [b"glyph=t\nglyph=h\nglyph=e\n", b"glyph=t\nglyph=h\nglyph=Q\n"];
 
-/// A name, and how long one run takes. The last two of a group are the second program's.
+/// A name, and how long one run takes. Those of the second program, whose names say so, come last.
 type Runner = (&'static str, fn(&mut Rows, Search) -> Duration);
 
 const READERS: [Runner; 3] = [
@@ -32,10 +34,13 @@ const FINDERS: [Runner; 4] = [
     ("second, kept rows", Rows::time_kept_find),
 ];
 
+const REWRITERS: [Runner; 2] =
+    [("proved rewriter", Rows::time_respell), ("second program", time_second_respell)];
+
 fn main() {
     println!("a record has {} bytes, an entry {}", size_of::<Record>(), size_of::<Entry>());
     println!("each time is the best of {ROUNDS}, the programs taking turns");
-    println!("ratios: a line's time for one of the second program's, and for one of that with kept rows");
+    println!("ratios: a line's time for one of each of the second program's lines");
     let list = shape::list();
     for (seed, size) in SIZES.into_iter().enumerate() {
         measure(&shape::stream(size, &mut Random::new(seed as u64)), &list);
@@ -57,6 +62,24 @@ fn measure(stream: &[u8], list: &[u8]) {
         println!(" find, {} hits", rows.due);
         race(&FINDERS, &mut rows, search);
     }
+    if stream.len() > MOST_TO_RESPELL {
+        let answer = proved::respell(stream, list, &mut vec![0; SPELLING_LIMIT]);
+        assert_eq!(answer.refusal, 13);
+        println!(" respell: refused as 13, the spelling is over {SPELLING_LIMIT} bytes");
+        return;
+    }
+    let spelling = measure_respelling(stream, list, &mut rows);
+    measure_respelling(&spelling, list, &mut rows);
+}
+
+/// Measures the rewriter on one stream and prints what came; the spelling.
+fn measure_respelling(stream: &[u8], list: &[u8], rows: &mut Rows) -> Vec<u8> {
+    rows.respell_once(stream, list);
+    let is_spelt = if rows.out == stream { "a stream that is spelt so already" } else { "the stream" };
+    let (size, length) = (megabytes(stream.len()), megabytes(rows.out.len()));
+    println!(" respell {is_spelt}, {size:.2} MB, to {length:.2} MB");
+    race(&REWRITERS, rows, Search { stream, list, query: b"" });
+    rows.out.clone()
 }
 
 /// The best time of each, in turns.
@@ -67,13 +90,14 @@ fn race(runners: &[Runner], rows: &mut Rows, search: Search) {
             *time = run(rows, search).min(*time);
         }
     }
-    let ratio_to_last =
-        |time: Duration, back: usize| time.as_secs_f64() / best[best.len() - back].as_secs_f64();
-    for ((name, _), &time) in runners.iter().zip(&best) {
-        let [to_second, to_kept] = [2, 1].map(|back| ratio_to_last(time, back));
-        let seconds = time.as_secs_f64();
-        let (time, speed) = (seconds * 1_000.0, megabytes(search.stream.len()) / seconds);
-        println!("  {name:18} {time:8.2} ms {speed:7.1} MB/s, ratios {to_second:.2}, {to_kept:.2}");
+    let seconds: Vec<f64> = best.iter().map(Duration::as_secs_f64).collect();
+    let is_second = |place: &usize| runners[*place].0.starts_with("second");
+    for ((name, _), time) in runners.iter().zip(&seconds) {
+        let ratio = |place: usize| format!("{:.2}", time / seconds[place]);
+        let ratios: Vec<String> = (0..seconds.len()).filter(is_second).map(ratio).collect();
+        let (milliseconds, speed) = (time * 1_000.0, megabytes(search.stream.len()) / time);
+        let ratios = ratios.join(", ");
+        println!("  {name:18} {milliseconds:8.2} ms {speed:7.1} MB/s, ratios {ratios}");
     }
 }
 
@@ -96,6 +120,8 @@ struct Rows {
     /// how many hits the query has
     due: usize,
     kept: Vec<second::Record>,
+    /// of exactly the bytes of the spelling
+    out: Vec<u8>,
 }
 
 impl Rows {
@@ -107,7 +133,8 @@ impl Rows {
         let answer = proved::read(stream, list, &mut records, &mut entries);
         assert!(answer.refusal == 0 && answer == due.answer, "{answer:?}");
         assert!(records == due.records && entries == due.others, "the rows differ");
-        Rows { hits: vec![0; records.len()], records, entries, due: 0, kept: Vec::new() }
+        let hits = vec![0; records.len()];
+        Rows { records, entries, hits, due: 0, kept: Vec::new(), out: Vec::new() }
     }
 
     /// Both programs must find the same.
@@ -117,6 +144,15 @@ impl Rows {
         assert!(answer.refusal == 0 && answer == due.answer, "{answer:?}");
         assert!(self.records == due.records && self.hits[..answer.hits] == due.others, "the rows differ");
         self.due = answer.hits;
+    }
+
+    /// Both programs must spell the same.
+    fn respell_once(&mut self, stream: &[u8], list: &[u8]) {
+        let due = expected::respell(stream, list, Rooms::default());
+        self.out = vec![0; due.others.len()];
+        let answer = proved::respell(stream, list, &mut self.out);
+        assert!(answer.refusal == 0 && answer == due.answer, "{answer:?}");
+        assert!(self.out == due.others, "the spellings differ");
     }
 
     fn time_read(&mut self, Search { stream, list, .. }: Search) -> Duration {
@@ -136,6 +172,12 @@ impl Rows {
         let hits = &mut self.hits[..self.due];
         let (time, answer) = timed(|| proved::find(search, &mut self.records, hits));
         assert_eq!((answer.refusal, answer.hits), (0, self.due));
+        time
+    }
+
+    fn time_respell(&mut self, Search { stream, list, .. }: Search) -> Duration {
+        let (time, answer) = timed(|| proved::respell(stream, list, &mut self.out));
+        assert_eq!((answer.refusal, answer.len), (0, self.out.len()));
         time
     }
 
@@ -175,5 +217,11 @@ fn time_second_read(_: &mut Rows, Search { stream, list, .. }: Search) -> Durati
 fn time_second_find(_: &mut Rows, Search { stream, list, query }: Search) -> Duration {
     let (time, found) = timed(|| second::find(stream, list, query, Rooms::default()));
     assert!(found.is_ok());
+    time
+}
+
+fn time_second_respell(_: &mut Rows, Search { stream, list, .. }: Search) -> Duration {
+    let (time, spelling) = timed(|| second::respell(stream, list, Rooms::default()));
+    assert!(spelling.is_ok());
     time
 }
