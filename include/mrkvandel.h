@@ -7,12 +7,12 @@
  * colours, crates/rules/src/lib.rt. What the answers mean is said in full by the definitions in crates/rules/specs.
  *
  * Of every function here:
- *   - An input, a row or the rewriter's buffer, which is a row of bytes, crosses as a pointer and the number of its items (of bytes,
+ *   - An input, a row or the rewriter's buffer, which is a row of bytes, crosses as a pointer and the number of its items (bytes,
  *     records, entries or hits).
  *   - Each pointer must be valid for that many items and aligned for them: to read for an input, to read and write for a row.
  *     None may be null, not even where the number is 0.
- *   - No row may overlap the other row or an input: so a stream cannot be rewritten in its place. The inputs may overlap each other.
- *     They are not changed.
+ *   - No row may overlap the other row or an input: so a stream cannot be rewritten in its place. The inputs may overlap each
+ *     other. They are not changed.
  *   - Nothing else is asked of a caller: any bytes and any lengths will do, and the rows may hold anything.
  *   - Nothing is allocated and nothing is kept between calls. A call needs up to 80 KiB of the stack.
  *
@@ -187,12 +187,12 @@ mrkvandel_find_result mrkvandel_find(const uint8_t *stream, size_t stream_len, c
 
 /*
  * Rewrites a stream, with its width list, in the house spelling. `out` gets the spelling:
- *   - one command a line, each line ended by a newline; one space before each argument, integers in their shortest form; the letters
- *     of `m`, `D` and `DF` together, `x` and a space before the first letter of its word alone;
+ *   - one command a line, each line ended by a newline; one space before each argument, integers in their shortest form; the
+ *     letters of `m`, `D` and `DF` together; `x`, a space and the first letter of its word alone;
  *   - every command in its order, repeats too, but no motion; comments and dummy arguments go, `n` becomes `n 0 0`;
- *   - each glyph of `t`, `u` and of two digits by itself, `c` and its byte; of a name of one byte too, of a longer one `C` and the name;
- *   - before a glyph, `N`, any `D`, `x X` or `x s` a line `H` and then a line `V` with the position there, each only where a reader of
- *     the spelling so far is at another one;
+ *   - each glyph by itself, those of `t`, `u` and two digits too: `c` and its byte, or `C` and its name where that has more bytes;
+ *   - before a glyph, `N`, any `D`, `x X` or `x s` a line `H` and then a line `V` with the position there, each only where a reader
+ *     of the spelling so far is at another one;
  *   - of `x X` a space and its first line, or neither where that is empty; then its `+` lines as they are.
  *
  * Accepted (refusal 0): the first `len` bytes of the buffer, as the answer counts them, are the spelling; what lies behind them in
@@ -200,12 +200,12 @@ mrkvandel_find_result mrkvandel_find(const uint8_t *stream, size_t stream_len, c
  * Refused: the buffer is unchanged, every byte of it. 13 comes also where the spelling is over 16,777,216 bytes, however large the
  * buffer is.
  *
- * With the same width list the spelling is accepted by the reader and gives the same glyphs, drawings, controls, pages, end position
- * and colours as the stream; and rewriting it gives it back, byte for byte. (Both proved.)
+ * With the same width list the reader accepts the spelling and gives the same glyphs, drawings, controls, pages, end position and
+ * colours as of the stream; and rewriting it gives it back, byte for byte. (Both proved.)
  *
- * A refusal does not tell how long the spelling would be. A buffer of 16,777,216 bytes is always enough, where one is; so is one of
- * 16 * n bytes for a stream of n bytes: no byte of a stream gives more than 16 bytes of spelling, as a byte of a word can, by the
- * lines `H -99999999` and `c a`. (The latter tested, not proved.)
+ * A refusal, of an empty buffer too, does not tell how long the spelling would be. If any buffer is large enough, one of 16,777,216
+ * bytes is; and one of 16 * n bytes for a stream of n bytes: a byte of a word gives at most 16 bytes of spelling, such as the lines
+ * `H -99999999` and `c a`, and other commands give less for each of theirs. (The latter tested, not proved.)
  */
 mrkvandel_respell_result mrkvandel_respell(const uint8_t *stream, size_t stream_len, const uint8_t *widths, size_t widths_len,
                                            uint8_t *out, size_t out_len);

@@ -10,7 +10,7 @@ int main(int count, char **words) {
     size_t stream_len, widths_len;
     uint8_t *stream = read_file(words[1], &stream_len);
     uint8_t *widths = read_file(words[2], &widths_len);
-    /* no byte of a stream gives more than 16 bytes of spelling, and no spelling is over the limit */
+    /* no spelling has over 16 bytes for each of the stream, and none is over the limit */
     size_t most = MRKVANDEL_SPELLING_LIMIT;
     size_t out_len = stream_len < most / 16 ? 16 * stream_len : most;
     uint8_t *out = (uint8_t *)room(out_len, 1);

@@ -16,7 +16,7 @@ const INPUTS: u64 = 100_000;
 /// The refusal numbers that the rewriter can give.
 const REFUSALS: [usize; 12] = [1, 2, 3, 4, 5, 6, 7, 8, 9, 10, 11, 13];
 
-/// The header: no byte of a stream gives more bytes of spelling.
+/// The header: a spelling has at most so many bytes for each of its stream.
 const MOST_OF_A_BYTE: usize = 16;
 
 /// P1 of 01, and its spelling.
