@@ -35,7 +35,7 @@ use Rattle.finding.proofs.Asked.{query-shape, shape-some}
 use Rattle.finding.proofs.Written.{written-read, read-written, query-short, names-some}
 use Rattle.scanned.proofs.Fair.{commands-good}
 use Rattle.scanned.proofs.Names.{AllRows, RowIn, RowsOf, read-stands}
-use Rattle.theorems.specs.Statements.{Accepted, glyphsIn, rowsIn, itemsIn, pagesIn, endIn, glyphPaintIn, fillPaintIn, SameReading, ReadAgain, RoundTrip, FixedPoint, Exact, Exactness, Told, refusedAt, listed, told, cmdsOf, actsOf, OneSpelling, Answered, QueryText, OneByte, Roomy, Limits, ByOutline, single, ByAnyCommand, nameIn, NamesIn, NamesOf, NamesStand, Alike, Likeness}
+use Rattle.theorems.specs.Statements.{Accepted, glyphsIn, rowsIn, itemsIn, pagesIn, endIn, glyphPaintIn, fillPaintIn, SameReading, ReadAgain, RoundTrip, FixedPoint, Exact, Exactness, Told, refusedAt, listed, told, cmdsOf, actsOf, houseText, OneSpelling, Answered, QueryText, OneByte, Roomy, Limits, ByOutline, single, ByAnyCommand, nameIn, NamesIn, NamesOf, NamesStand, Alike, Likeness}
 
 -- ---- an accepted stream
 
@@ -232,12 +232,16 @@ refused-spelling : (s list : List ℕ) (n at : ℕ) → read s list ≡ refuse n
 unfolding respell
 refused-spelling s list n at h = rw h
 
-given-spelling : (s list : List ℕ) → Accepted s list → (t : List ℕ) × ((respell s list ≡ spelled t) ⊎ ((respell s list ≡ notSpelled 13 0) × (streamMost < length t)))
+sound-list : (s list : List ℕ) → Accepted s list → (w : Widths) × (widthList list ≡ sound w)
+sound-list s list h = let z : Sound s list = sound-of s list h in (z .widths, z .list-sound)
+
+given-spelling : (s list : List ℕ) (w : Widths) → widthList list ≡ sound w → Accepted s list
+    → (respell s list ≡ spelled (houseText w s)) ⊎ ((respell s list ≡ notSpelled 13 0) × (streamMost < length (houseText w s)))
 unfolding respell
-given-spelling s list h = (spellWith s (widthList list), spelled-or (spellWith s (widthList list)) (read s list) h)
+given-spelling s list w e h = rw e (spelled-or (houseText w s) (read s list) h)
 
 pub oneSpelling : OneSpelling
-oneSpelling = record { by-commands = same-commands; accepted = given-spelling; refused = refused-spelling }
+oneSpelling = record { by-commands = same-commands; sound-list = sound-list; accepted = given-spelling; refused = refused-spelling }
 
 -- ---- finding
 
@@ -505,6 +509,19 @@ or-true : (a b : Bool) → b ≡ true → (a || b) ≡ true
 or-true true b h = refl
 or-true false b h = h
 
+-- the limit of a spelling
+short-spelling : (s list : List ℕ) (w : Widths) → widthList list ≡ sound w → Accepted s list → length (houseText w s) ≤ 16_777_216 → respell s list ≡ spelled (houseText w s)
+unfolding respell
+short-spelling s list w e h k = rw e (spells (houseText w s) (read s list) h (enough (length (houseText w s)) streamMost k))
+
+too-long : (t : List ℕ) (x : Answer) → isAccepted x ≡ true → isOver streamMost t ≡ true → spellIf t x ≡ notSpelled 13 0
+too-long t (refuse n at) h k = no h
+too-long t (answer rs xs e) h k = rw k
+
+long-spelling : (s list : List ℕ) (w : Widths) → widthList list ≡ sound w → Accepted s list → 16_777_216 < length (houseText w s) → respell s list ≡ notSpelled 13 0
+unfolding respell
+long-spelling s list w e h k = rw e (too-long (houseText w s) (read s list) h (lt-ltb streamMost (length (houseText w s)) k))
+
 pub limits-hold : Limits
 unfolding read find
 limits-hold = record {
@@ -513,6 +530,8 @@ limits-hold = record {
   long-query = λ s list q h. rw (lt-ltb 8_192 (length q) h, or-true (isOver 65_536 list) true refl, or-true (isOver streamMost s) true refl);
   not-long = λ s list h k. rw (enough (length s) streamMost h, enough (length list) 65_536 k);
   not-long-query = λ s list q h k l. rw (enough (length s) streamMost h, enough (length list) 65_536 k, enough (length q) 8_192 l);
+  not-long-spelling = short-spelling;
+  long-spelling = long-spelling;
   text = λ t h. rw (le-leb (length t) 4_096 h);
   long-text = λ t h. rw (lt-leb (length t) 4_096 h);
 }

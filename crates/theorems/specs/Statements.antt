@@ -8,7 +8,7 @@ use mathlib.Core.Path.{_≡_}
 use lib.ListN.{length, take, drop}
 use Rattle.rules.specs.Bytes.{isWhite, origin}
 use Rattle.rules.specs.Act.{Act, glyph, raw, Cmd, just, word, pair}
-use Rattle.rules.specs.House.{played}
+use Rattle.rules.specs.House.{played, spelling, spellAll}
 use Rattle.rules.specs.Scan.{got, limits, command, commands, bare}
 use Rattle.rules.specs.Widths.{Widths, sound, widthList}
 use Rattle.rules.specs.State.{Spot, corner, Paint, noPaint, Env, Glyph, Item, start}
@@ -86,11 +86,17 @@ RoundTrip = (s list t : List ℕ) → respell s list ≡ spelled t → ReadAgain
 abbrev pub FixedPoint : Type 0
 FixedPoint = (s list t : List ℕ) → respell s list ≡ spelled t → respell t list ≡ spelled t
 
--- "the one house spelling": it goes by the commands alone; an accepted stream has one, unless it is too long, and any other
--- stream is refused as the reader refuses it
+-- the house text of a stream's commands
+abbrev pub houseText : Widths → List ℕ → List ℕ
+houseText w s = spellAll (spelling w (cmdsOf s))
+
+-- "the one house spelling": it goes by the commands alone; an accepted stream has a sound list and is given its house text, unless
+-- that is too long, and any other stream is refused as the reader refuses it
 pub record OneSpelling : Type 0 where
   pub by-commands : (s s′ list : List ℕ) → Accepted s list → Accepted s′ list → cmdsOf s ≡ cmdsOf s′ → respell s list ≡ respell s′ list
-  pub accepted : (s list : List ℕ) → Accepted s list → (t : List ℕ) × ((respell s list ≡ spelled t) ⊎ ((respell s list ≡ notSpelled 13 0) × (streamMost < length t)))
+  pub sound-list : (s list : List ℕ) → Accepted s list → (w : Widths) × (widthList list ≡ sound w)
+  pub accepted : (s list : List ℕ) (w : Widths) → widthList list ≡ sound w → Accepted s list
+      → (respell s list ≡ spelled (houseText w s)) ⊎ ((respell s list ≡ notSpelled 13 0) × (streamMost < length (houseText w s)))
   pub refused : (s list : List ℕ) (n at : ℕ) → read s list ≡ refuse n at → respell s list ≡ notSpelled n at
 
 -- ---- "name (its place and length in the stream)": the bytes at a record's place are its name
@@ -201,8 +207,8 @@ pub record Roomy : Type 0 where
   pub finder : (records hits : ℕ) (s list q : List ℕ) (rs : List GlyphRow) (is : List ℕ) → find s list q ≡ found rs is → length rs ≤ records → length is ≤ hits
       → findInto records hits s list q ≡ found rs is
 
--- ---- the limits that no sample reaches, as 01 has them: 16,777,216 bytes of a stream, 65,536 of a list, 8,192 of a query, 4,096 of a
--- text; each number itself is allowed
+-- ---- the limits that no sample reaches, as 01 has them: 16,777,216 bytes of a stream and of a spelling, 65,536 of a list, 8,192 of a
+-- query, 4,096 of a text; each number itself is allowed
 
 pub record Limits : Type 0 where
   pub long-stream : (s list : List ℕ) → 16_777_216 < length s → read s list ≡ refuse 1 0
@@ -210,6 +216,8 @@ pub record Limits : Type 0 where
   pub long-query : (s list q : List ℕ) → 8_192 < length q → find s list q ≡ notFound 1 0
   pub not-long : (s list : List ℕ) → length s ≤ 16_777_216 → length list ≤ 65_536 → read s list ≡ readWith s (widthList list)
   pub not-long-query : (s list q : List ℕ) → length s ≤ 16_777_216 → length list ≤ 65_536 → length q ≤ 8_192 → find s list q ≡ findWith s q (widthList list)
+  pub not-long-spelling : (s list : List ℕ) (w : Widths) → widthList list ≡ sound w → Accepted s list → length (houseText w s) ≤ 16_777_216 → respell s list ≡ spelled (houseText w s)
+  pub long-spelling : (s list : List ℕ) (w : Widths) → widthList list ≡ sound w → Accepted s list → 16_777_216 < length (houseText w s) → respell s list ≡ notSpelled 13 0
   pub text : (t : List ℕ) → length t ≤ 4_096 → limits (raw t) ≡ true ∷ []
   pub long-text : (t : List ℕ) → 4_096 < length t → limits (raw t) ≡ false ∷ []
 
