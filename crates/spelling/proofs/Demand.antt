@@ -1,11 +1,13 @@
 -- Demand 2's last sentences, proved of whatever meets the contracts of `read` and `respell`. Assumes nothing.
-use Prim.Native.Nat.{ℕ, _≤_}
+use Prim.Native.Nat.{ℕ, _<_, _≤_}
 use native.Mathlib.Omega.{arith}
 use mathlib.Core.Bool.{true, _||_}
 use mathlib.Core.List.{List, [], _∷_, _++_, map}
+use mathlib.Core.Logic.{_⊎_, inl, inr}
 use mathlib.Core.Path.{_≡_, refl, sym, ap, ap₂, subst, _∙_}
 use lib.Dec.{ltb}
 use lib.ListN.{length, take, drop}
+use borrow.Author.Tests.{ltb-true, lt-ltb}
 use Rattle.rules.specs.declared.Record.{Record}
 use Rattle.rules.specs.declared.Entry.{Entry}
 use Rattle.rules.specs.declared.ReadAnswer.{ReadAnswer}
@@ -15,13 +17,15 @@ use Rattle.rules.specs.declared.Respelling.{Respelling}
 use Rattle.rules.specs.declared.Respelling.the-variants as S
 use Rattle.rules.specs.State.{Env, Glyph, Item}
 use Rattle.rules.specs.Record.{GlyphRow, ItemRow, Answer, refuse, answer, shown, recordOf, lettersOf, entryOf, colourOf, over}
-use Rattle.rules.specs.Answers.{read, isAccepted, roomFor, readInto, readingOf, recordsOver, entriesOver, Spelling, notSpelled, spelled, isOver, respell, spellingIn, respellInto, respellingOf, bufferOver}
+use Rattle.rules.specs.Widths.{Widths, sound, widthList}
+use Rattle.rules.specs.Answers.{streamMost, read, isAccepted, roomFor, readInto, readingOf, recordsOver, entriesOver, Spelling, notSpelled, spelled, isOver, respell, spellingIn, respellInto, respellingOf, bufferOver}
 use Rattle.laws.proofs.Cases.{on, no}
 use Rattle.scanned.proofs.Names.{AllRows, RowIn, RowsOf, read-stands}
-use Rattle.theorems.specs.Statements.{SameReading, ReadAgain}
-use Rattle.theorems.proofs.Theorems.{roundTrip, fixedPoint, roomy}
+use Rattle.theorems.specs.Statements.{Accepted, SameReading, ReadAgain, houseText}
+use Rattle.theorems.proofs.Theorems.{roundTrip, fixedPoint, roomy, oneSpelling, limits-hold}
+use Rattle.theorems.proofs.Numbers.{numbers}
 use Rattle.reader.proofs.Passes.{length-map}
-use Rattle.spelling.specs.Demand.{ReadCall, SpellCall, Gives, GivesOne, LeavesAlone, LeavesRows, SeenGlyph, seenGlyph, SeenEntry, seenEntry, ReadsSame, SpellingReadsSame, RewritingChangesNothing}
+use Rattle.spelling.specs.Demand.{ReadCall, SpellCall, Gives, GivesOne, LeavesAlone, LeavesRows, Short, TooLong, NoRoom, LargeEnough, SeenGlyph, seenGlyph, SeenEntry, seenEntry, ReadsSame, SpellingReadsSame, RewritingChangesNothing}
 
 -- ---- what is in front of what was there
 
@@ -100,20 +104,70 @@ leavesAlone s list o k at o′ c = go (respellInto (length o) s list) (c .answer
     go (notSpelled m b) a e = e
     go (spelled t) a e = absurd (subst IsGiven (sym a) tt)
 
--- ---- rewriting the spelling
+-- ---- room
 
--- a call on a stream that is its own spelling, with room for it
-again : (t list o : List ℕ) (r : Respelling) (o′ : List ℕ) → respell t list ≡ spelled t → length t ≤ length o → SpellCall t list o r o′
-    → (r ≡ S.Accepted (length t)) × (take (length t) o′ ≡ t)
-again t list o r o′ f h c =
-    let e : respellInto (length o) t list ≡ spelled t = roomy .rewriter (length o) t list t f h in
+pub largeEnough : LargeEnough
+largeEnough s list o r o′ t c f h =
+    let e : respellInto (length o) s list ≡ spelled t = roomy .rewriter (length o) s list t f h in
     (c .answer ∙ ap respellingOf e, take-over (length t) t o o′ refl (c .buffer ∙ ap (bufferOver o) e))
+
+short-in : (room : ℕ) (t : List ℕ) → room < length t → spellingIn room (spelled t) ≡ notSpelled 13 0
+short-in room t h = rw (lt-ltb room (length t) h)
+
+room-refuses : (s list o : List ℕ) (r : Respelling) (o′ : List ℕ) → SpellCall s list o r o′ → Short s list (length o) ⊎ TooLong s list → r ≡ S.Refused 13 0
+unfolding respellInto
+room-refuses s list o r o′ c (inl x) = c .answer ∙ ap (λ (y : Spelling). respellingOf (spellingIn (length o) y)) (x .all-else) ∙ ap respellingOf (short-in (length o) (x .text) (x .less))
+room-refuses s list o r o′ c (inr x) =
+    c .answer ∙ ap (λ (y : Spelling). respellingOf (spellingIn (length o) y)) (limits-hold .long-spelling s list (x .widths) (x .list-sound) (x .accepted) (x .long))
+
+abbrev refusalIn : Respelling → ℕ
+refusalIn (S.Accepted n) = 0
+refusalIn (S.Refused k at) = k
+
+abbrev numberIn : Spelling → ℕ
+numberIn (notSpelled n at) = n
+numberIn (spelled t) = 0
+
+number-of : (x : Spelling) → refusalIn (respellingOf x) ≡ numberIn x
+number-of (notSpelled n at) = refl
+number-of (spelled t) = refl
+
+-- the rules have no 13 but for a spelling that is too long
+too-long : (s list : List ℕ) → numberIn (respell s list) ≡ 13 → TooLong s list
+too-long s list h = go (read s list) refl
+  where
+    long-in : (w : Widths) → widthList list ≡ sound w → Accepted s list
+        → (respell s list ≡ spelled (houseText w s)) ⊎ ((respell s list ≡ notSpelled 13 0) × (streamMost < length (houseText w s))) → TooLong s list
+    long-in w q a (inl e) = absurd (let z : 0 ≡ 13 = sym (ap numberIn e) ∙ h in omega arith)
+    long-in w q a (inr p) = record { accepted = a; widths = w; list-sound = q; long = p .1 }
+
+    with-list : Accepted s list → (w : Widths) × (widthList list ≡ sound w) → TooLong s list
+    with-list a p = long-in (p .0) (p .1) a (oneSpelling .accepted s list (p .0) (p .1) a)
+
+    go : (x : Answer) → read s list ≡ x → TooLong s list
+    go (refuse n at) e =
+        let z : n ≡ 13 = sym (ap numberIn (oneSpelling .refused s list n at e)) ∙ h in absurd (omega (arith, z, numbers .read-up-to-11 s list n at e))
+    go (answer rs xs d) e = let a : Accepted s list = ap isAccepted e in with-list a (oneSpelling .sound-list s list a)
+
+room-only : (s list o : List ℕ) (at : ℕ) (o′ : List ℕ) → SpellCall s list o (S.Refused 13 at) o′ → Short s list (length o) ⊎ TooLong s list
+unfolding respellInto
+room-only s list o at o′ c = go (respell s list) refl (sym (number-of (respellInto (length o) s list)) ∙ sym (ap refusalIn (c .answer)))
+  where
+    go : (x : Spelling) → respell s list ≡ x → numberIn (spellingIn (length o) x) ≡ 13 → Short s list (length o) ⊎ TooLong s list
+    go (notSpelled n b) e h = inr (too-long s list (ap numberIn e ∙ h))
+    go (spelled t) e h =
+        on (isOver (length o) t) (λ k. inl (record { text = t; all-else = e; less = ltb-true (length o) (length t) k })) (λ k. absurd (let z : 0 ≡ 13 = rw k at h in omega arith))
+
+pub noRoom : NoRoom
+noRoom = record { refuses = room-refuses; only = room-only }
+
+-- ---- rewriting the spelling
 
 pub rewritingChangesNothing : RewritingChangesNothing
 rewritingChangesNothing s list o k o′ c o₂ r₂ o₂′ h d =
     let g : Gives s list o k o′ = givesOne s list o k o′ c in
     let p : (r₂ ≡ S.Accepted (length (take k o′))) × (take (length (take k o′)) o₂′ ≡ take k o′) =
-    again (take k o′) list o₂ r₂ o₂′ (fixedPoint s list (take k o′) (g .spelling)) (omega (arith, g .size, h)) d in
+    largeEnough (take k o′) list o₂ r₂ o₂′ (take k o′) d (fixedPoint s list (take k o′) (g .spelling)) (omega (arith, g .size, h)) in
     (p .0 ∙ ap S.Accepted (g .size), ap (λ (i : ℕ). take i o₂′) (sym (g .size)) ∙ p .1)
 
 -- ---- a call of `read`

@@ -1,7 +1,8 @@
 -- Demand 2's last sentences, said of the answers, rows and buffers of the routines themselves: whatever calls answer and leave, if they
 -- meet the contracts of `read` and `respell`. Statements; the proofs stand in proofs/Demand.antt. Assumes nothing.
-use Prim.Native.Nat.{ℕ, _≤_}
+use Prim.Native.Nat.{ℕ, _<_, _≤_}
 use mathlib.Core.List.{List, map}
+use mathlib.Core.Logic.{_⊎_}
 use mathlib.Core.Path.{_≡_}
 use lib.IntN.{ℤ}
 use lib.ListN.{length, take, drop}
@@ -12,8 +13,9 @@ use Rattle.rules.specs.declared.ReadAnswer.the-variants as R
 use Rattle.rules.specs.declared.Reading.{Reading}
 use Rattle.rules.specs.declared.Respelling.{Respelling}
 use Rattle.rules.specs.declared.Respelling.the-variants as S
+use Rattle.rules.specs.Widths.{Widths, sound, widthList}
 use Rattle.rules.specs.Answers.{read, readInto, readingOf, recordsOver, entriesOver, spelled, respell, respellInto, respellingOf, bufferOver}
-use Rattle.theorems.specs.Statements.{Accepted, itemsIn}
+use Rattle.theorems.specs.Statements.{Accepted, itemsIn, houseText}
 
 -- the contract of `read`: rows rs and es were lent, the answer is r, and the rows hold rs′ and es′ afterwards
 pub record ReadCall (s list : List ℕ) (rs : List Record) (es : List Entry) (r : Reading) (rs′ : List Record) (es′ : List Entry) : Type 0 where
@@ -43,6 +45,29 @@ LeavesAlone = (s list o : List ℕ) (k at : ℕ) (o′ : List ℕ) → SpellCall
 abbrev pub LeavesRows : Type 0
 LeavesRows = (s list : List ℕ) (rs : List Record) (es : List Entry) (k at : ℕ) (glyph fill : Colour) (rs′ : List Record) (es′ : List Entry)
     → ReadCall s list rs es (record { answer = R.Refused k at; glyph = glyph; fill = fill }) rs′ es′ → (rs′ ≡ rs) × (es′ ≡ es)
+
+-- the "spelling needs more room than lent"
+pub record Short (s list : List ℕ) (room : ℕ) : Type 0 where
+  pub text : List ℕ
+  pub all-else : respell s list ≡ spelled text
+  pub less : room < length text
+
+-- "or the spelling is over 16,777,216 bytes": the house text of an accepted stream
+pub record TooLong (s list : List ℕ) : Type 0 where
+  pub accepted : Accepted s list
+  pub widths : Widths
+  pub list-sound : widthList list ≡ sound widths
+  pub long : 16_777_216 < length (houseText widths s)
+
+-- is 13, at offset 0; "13 comes last, when all else passed", and for nothing else
+pub record NoRoom : Type 0 where
+  pub refuses : (s list o : List ℕ) (r : Respelling) (o′ : List ℕ) → SpellCall s list o r o′ → Short s list (length o) ⊎ TooLong s list → r ≡ S.Refused 13 0
+  pub only : (s list o : List ℕ) (at : ℕ) (o′ : List ℕ) → SpellCall s list o (S.Refused 13 at) o′ → Short s list (length o) ⊎ TooLong s list
+
+-- a buffer with a place for each byte of the spelling is large enough, and holds it
+abbrev pub LargeEnough : Type 0
+LargeEnough = (s list o : List ℕ) (r : Respelling) (o′ t : List ℕ) → SpellCall s list o r o′ → respell s list ≡ spelled t → length t ≤ length o
+    → (r ≡ S.Accepted (length t)) × (take (length t) o′ ≡ t)
 
 -- "Glyphs of two streams are the same when their records agree and the names have equal bytes, wherever these stand"
 pub record SeenGlyph : Type 0 where
