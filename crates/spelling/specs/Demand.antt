@@ -46,7 +46,7 @@ abbrev pub LeavesRows : Type 0
 LeavesRows = (s list : List ℕ) (rs : List Record) (es : List Entry) (k at : ℕ) (glyph fill : Colour) (rs′ : List Record) (es′ : List Entry)
     → ReadCall s list rs es (record { answer = R.Refused k at; glyph = glyph; fill = fill }) rs′ es′ → (rs′ ≡ rs) × (es′ ≡ es)
 
--- the "spelling needs more room than lent"
+-- "records, entries, hits or spelling need more room than lent"
 pub record Short (s list : List ℕ) (room : ℕ) : Type 0 where
   pub text : List ℕ
   pub all-else : respell s list ≡ spelled text
