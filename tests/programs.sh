@@ -48,8 +48,8 @@ for folder in "$root"/tests/programs/*/; do
     count "$name" "$said"
 done
 
-# The largest stream that the programs take, 1 MiB with 65,536 records, as many entries and, for `find`, as many hits; one record more;
-# one byte more; a full disk.
+# The largest stream that the programs take, 1 MiB with 65,536 records, as many entries and, for `find`, as many hits; one byte more; a
+# full disk. For `glyphs` and `find` one record more.
 repeat() { yes "$1" | head -n "$2"; }
 head='x T ps\nx res 72000 1 1\nx init\np1\nx font 1 TR\nf1\ns10000\n'
 large="$work/large"
@@ -75,8 +75,6 @@ large_cases() { # PROGRAM LAST-LINE-OF-THE-LARGEST WORDS-BEHIND-THE-STREAM...
         said="the case is not made"
     fi
     count "$program-most" "$said"
-    run "$program" "$large" "$work/records" "$work/records-said" records "$@"
-    count "$program-a-record-too-many" "$said"
     run "$program" "$large" "$work/nothing" "$work/bytes-said" bytes "$@"
     count "$program-a-byte-too-many" "$said"
     if [ -w /dev/full ]; then
@@ -86,8 +84,43 @@ large_cases() { # PROGRAM LAST-LINE-OF-THE-LARGEST WORDS-BEHIND-THE-STREAM...
     fi
 }
 
+a_record_too_many() { # PROGRAM WORDS-BEHIND-THE-STREAM...
+    local program=$1
+    shift
+    run "$program" "$large" "$work/records" "$work/records-said" records "$@"
+    count "$program-a-record-too-many" "$said"
+}
+
 large_cases glyphs 'end 65536 65536 1 327680 0 d 0 0 0 0 d 0 0 0 0' widths
+a_record_too_many glyphs widths
 large_cases find 'found 65536 65536' widths query
+a_record_too_many find widths query
+large_cases respell 'x s' widths
+
+# A spelling of 4,194,304 bytes, all the room that `respell` has; and one of a byte more. A word of 8 glyphs at h from 99,990,000 on
+# takes 8 lines of `H` and as many of `c`; the rest is made up by an `x X`.
+spelling() { # BYTES
+    { printf "$head"; repeat H99990000taaaaaaaa 34920; } > "$work/words"
+    { cat "$work/words"; printf 'x X a\nx stop\n'; } > "$large/spelling"
+    local rest=$(($1 - $(cd "$large" && "$second" respell spelling widths | wc -c)))
+    { cat "$work/words"; printf 'x X a'; head -c "$rest" /dev/zero | tr '\0' a; printf '\nx stop\n'; } > "$large/spelling"
+}
+spelling 4194304
+(cd "$large" && "$second" respell spelling widths) > "$work/whole"
+if [ "$(wc -c < "$work/whole")" -eq 4194304 ]; then
+    run respell "$large" "$work/whole" "$work/nothing" spelling widths
+else
+    said="the case is not made"
+fi
+count respell-a-spelling-of-4194304-bytes "$said"
+spelling 4194305
+if [ "$(cd "$large" && "$second" respell spelling widths | wc -c)" -eq 4194305 ]; then
+    echo "spelling: line 1, column 1: $reason" > "$work/spelling-said"
+    run respell "$large" "$work/records" "$work/spelling-said" spelling widths
+else
+    said="the case is not made"
+fi
+count respell-a-spelling-of-4194305-bytes "$said"
 
 # A query of 8,192 bytes is read, one of a byte more is 1; a list of 65,537 bytes is 1 too, and is named first.
 newlines() { head -c "$1" /dev/zero | tr '\0' '\n'; }
@@ -108,6 +141,8 @@ run find "$large" "$work/long" "$work/list-said" stream widths-long query-long
 count find-a-long-list-and-query "$said"
 run glyphs "$large" "$work/long" "$work/list-said" stream widths-long
 count glyphs-a-long-list "$said"
+run respell "$large" "$work/long" "$work/list-said" stream widths-long
+count respell-a-long-list "$said"
 
 echo "$passed passed, $failed failed"
 [ "$failed" -eq 0 ]

@@ -7,13 +7,15 @@ use std::collections::BTreeMap;
 use std::path::{Path, PathBuf};
 use std::process::{Command, Output};
 
-/// The longest stream that the programs take, and their room for records, entries and hits.
+/// The longest stream that the programs take, and their room for records, entries and hits, and for
+/// the bytes of a spelling.
 pub const STREAM_MOST: usize = 1_048_576;
 pub const ROOM: usize = 65_536;
+pub const SPELLING_ROOM: usize = 4_194_304;
 
 /// The rooms of the programs.
 pub fn rooms() -> Rooms {
-    Rooms { records: ROOM, entries: ROOM, hits: ROOM, ..Rooms::default() }
+    Rooms { records: ROOM, entries: ROOM, hits: ROOM, spelling: SPELLING_ROOM }
 }
 
 /// A file's name and bytes.
