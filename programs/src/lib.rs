@@ -2,7 +2,8 @@
 
 use second::print::{line_and_column, refusal_text};
 use second::refusal::{reason, LIST_LIMIT, QUERY, QUERY_LIMIT, STREAM_LIMIT, TOO_LONG, WIDTH_LIST};
-use second::{Refusal, Rooms};
+use second::vectors;
+use second::{generate, Refusal, Rooms};
 use std::collections::BTreeMap;
 use std::path::{Path, PathBuf};
 use std::process::{Command, Output};
@@ -17,6 +18,12 @@ pub const SPELLING_ROOM: usize = 4_194_304;
 pub fn rooms() -> Rooms {
     Rooms { records: ROOM, entries: ROOM, hits: ROOM, spelling: SPELLING_ROOM }
 }
+
+/// How many generated cases each program is run on.
+pub const GENERATED: u64 = 3_000;
+
+/// Compares a program on one case: its runner, the case's name, the stream and the list.
+pub type Compare = fn(&Runner, &str, &[u8], &[u8], &mut Seen);
 
 /// A file's name and bytes.
 pub type File<'a> = (&'a str, &'a [u8]);
@@ -88,6 +95,29 @@ impl Runner {
         let names = files.iter().map(|(name, _)| name);
         Command::new(&self.program).args(names).current_dir(&self.folder).output().expect("the program runs")
     }
+}
+
+/// Compares a program on the stream and list of every vector.
+pub fn compare_vectors(name: &str, compare: Compare) -> Seen {
+    let (runner, mut seen) = (Runner::new(name, "vectors"), Seen::default());
+    let cases = vectors::all_cases().expect("the vectors can be read");
+    assert!(cases.len() >= 958, "{} vectors", cases.len());
+    for case in &cases {
+        compare(&runner, &case.name, &case.stream, &case.list, &mut seen);
+    }
+    println!("{} vectors: {seen:?}", cases.len());
+    seen
+}
+
+/// Compares a program on generated cases.
+pub fn compare_generated(name: &str, compare: Compare) -> Seen {
+    let (runner, mut seen) = (Runner::new(name, "generated"), Seen::default());
+    for seed in 0..GENERATED {
+        let case = generate::case(seed);
+        compare(&runner, &format!("seed {seed}"), &case.stream, &case.list, &mut seen);
+    }
+    println!("{GENERATED} generated cases: {seen:?}");
+    seen
 }
 
 fn assert_wrote(label: &str, output: &Output, text: &[u8], said: &str) {

@@ -1,6 +1,6 @@
 //! `find` and the second program write the same bytes on the vectors and on generated cases.
 
-use programs::{rooms, Runner, Seen};
+use programs::{rooms, Runner, Seen, GENERATED};
 use second::find::{read_query, QueryGlyph};
 use second::generate::damage::damage;
 use second::generate::outline::{outline, write_outline, OUTLINE_LIST};
@@ -10,7 +10,6 @@ use second::refusal::{QUERY, TOO_LONG, WIDTH_LIST};
 use second::vectors::{self, Program, Second};
 use second::{find, Found, Record};
 
-const GENERATED: u64 = 3_000;
 const OUTLINES: u64 = 3_000;
 
 /// What the queries of the accepted cases met: a hit, hits that share a record, a run that only a

@@ -1,10 +1,7 @@
 //! `glyphs` and the second program write the same bytes on the vectors and on generated cases.
 
-use programs::{rooms, Runner, Seen};
-use second::generate;
-use second::vectors::{self, Program, Second};
-
-const GENERATED: u64 = 3_000;
+use programs::{compare_generated, compare_vectors, rooms, Runner, Seen};
+use second::vectors::{Program, Second};
 
 fn compare(runner: &Runner, label: &str, stream: &[u8], list: &[u8], seen: &mut Seen) {
     let files = [("stream", stream), ("widths", list)];
@@ -13,23 +10,12 @@ fn compare(runner: &Runner, label: &str, stream: &[u8], list: &[u8], seen: &mut 
 
 #[test]
 fn vectors_agree() {
-    let (runner, mut seen) = (Runner::new("glyphs", "vectors"), Seen::default());
-    let cases = vectors::all_cases().expect("the vectors can be read");
-    assert!(cases.len() >= 958, "{} vectors", cases.len());
-    for case in &cases {
-        compare(&runner, &case.name, &case.stream, &case.list, &mut seen);
-    }
-    println!("{} vectors: {seen:?}", cases.len());
+    let seen = compare_vectors("glyphs", compare);
     assert!(seen.accepted >= 400 && seen.refusals() >= 400, "{seen:?}");
 }
 
 #[test]
 fn generated_cases_agree() {
-    let (runner, mut seen) = (Runner::new("glyphs", "generated"), Seen::default());
-    for seed in 0..GENERATED {
-        let case = generate::case(seed);
-        compare(&runner, &format!("seed {seed}"), &case.stream, &case.list, &mut seen);
-    }
-    println!("{GENERATED} generated cases: {seen:?}");
+    let seen = compare_generated("glyphs", compare);
     assert!(seen.accepted >= 500 && seen.refusals() >= 500, "{seen:?}");
 }

@@ -1,12 +1,9 @@
 //! `respell` and the second program write the same bytes on the vectors and on generated cases, and
 //! `respell` writes a spelling again as it is.
 
-use programs::{rooms, Runner, Seen};
-use second::generate;
+use programs::{compare_generated, compare_vectors, rooms, Runner, Seen};
 use second::refusal::{NO_ROOM, TOO_LONG, WIDTH_LIST};
-use second::vectors::{self, Program, Second};
-
-const GENERATED: u64 = 3_000;
+use second::vectors::{Program, Second};
 
 /// The case, and the spelling of an accepted one.
 fn compare(runner: &Runner, label: &str, stream: &[u8], list: &[u8], seen: &mut Seen) {
@@ -20,24 +17,13 @@ fn compare(runner: &Runner, label: &str, stream: &[u8], list: &[u8], seen: &mut 
 
 #[test]
 fn vectors_agree() {
-    let (runner, mut seen) = (Runner::new("respell", "vectors"), Seen::default());
-    let cases = vectors::all_cases().expect("the vectors can be read");
-    assert!(cases.len() >= 958, "{} vectors", cases.len());
-    for case in &cases {
-        compare(&runner, &case.name, &case.stream, &case.list, &mut seen);
-    }
-    println!("{} vectors: {seen:?}", cases.len());
+    let seen = compare_vectors("respell", compare);
     assert!(seen.accepted >= 400 && seen.refusals() >= 400, "{seen:?}");
 }
 
 #[test]
 fn generated_cases_agree() {
-    let (runner, mut seen) = (Runner::new("respell", "generated"), Seen::default());
-    for seed in 0..GENERATED {
-        let case = generate::case(seed);
-        compare(&runner, &format!("seed {seed}"), &case.stream, &case.list, &mut seen);
-    }
-    println!("{GENERATED} generated cases: {seen:?}");
+    let seen = compare_generated("respell", compare);
     assert!(seen.accepted >= 500 && seen.refusals() >= 500, "{seen:?}");
     assert!([TOO_LONG, WIDTH_LIST].iter().all(|number| seen.refusals_of(*number) > 0), "{seen:?}");
 }
