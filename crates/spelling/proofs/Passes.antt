@@ -4,7 +4,7 @@ use native.Mathlib.Omega.{arith}
 use mathlib.Core.Bool.{true, false}
 use mathlib.Core.List.{List, [], _∷_, _++_}
 use mathlib.Core.Logic.{inl, inr}
-use mathlib.Core.Path.{_≡_, refl, sym, ap, ap₂, _∙_}
+use mathlib.Core.Path.{_≡_, refl, sym, ap, _∙_}
 use lib.Dec.{eqb}
 use lib.ListN.{length, take, drop, getD, length-append}
 use lib.Seq.{drop-drop}
@@ -62,14 +62,6 @@ module _ (find : List ℕ → ℕ) (s : List ℕ) where
       let more : (passFor f find s (stepOf find s p) .state ≡ R.passFor f find s q .state) × (passFor f find s (stepOf find s p) .scratch ≡ R.passFor f find s q .scratch) =
       pass-same f (stepOf find s p) (q .records) (q .entries) in
       on (eqb (p .state .left) 0) (λ e. rw e (refl, refl)) (λ e. rw e more)
-
-  -- so with the rows that the reader's pass leaves it is that pass: what is known of the one is known of the other
-  pub pass-is : (f : ℕ) (p : Pass) (rs : List Record) (es : List Entry)
-      → readerAt (passFor f find s p) (R.passFor f find s (readerAt p rs es) .records) (R.passFor f find s (readerAt p rs es) .entries) ≡ R.passFor f find s (readerAt p rs es)
-  pass-is f p rs es =
-      let q : R.Pass = R.passFor f find s (readerAt p rs es) in
-      let h : (passFor f find s p .state ≡ q .state) × (passFor f find s p .scratch ≡ q .scratch) = pass-same f p rs es in
-      ap₂ (λ (st : State) (ws : List ℕ). record { state = st; scratch = ws; records = q .records; entries = q .entries }) (h .0) (h .1)
 
   -- ---- a pass that has stopped
 

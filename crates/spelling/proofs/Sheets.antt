@@ -9,7 +9,7 @@ use lib.Dec.{ltb}
 use lib.ListN.{length, length-set, length-append}
 use lib.Seq.{append-snoc, set-append-seam}
 use Rattle.rules.specs.Bytes.{most, origin, near}
-use Rattle.rules.specs.House.{decimal, signedDecimal}
+use Rattle.rules.specs.House.{signedDecimal}
 use Rattle.rules.specs.Record.{over}
 use Rattle.laws.proofs.Cases.{on, if-on}
 use Rattle.printed.proofs.Decimals.{near-bounds}
@@ -29,10 +29,6 @@ putAll-none p = refl
 pub putAll-cons : (b : ℕ) (t : List ℕ) (p : Sheet) → putAll (b ∷ t) p ≡ putAll t (put b p)
 unfolding putAll
 putAll-cons b t p = refl
-
-pub putAll-one : (b : ℕ) (p : Sheet) → putAll (b ∷ []) p ≡ put b p
-unfolding putAll
-putAll-one b p = refl
 
 -- ---- the buffer's length, and the place
 
@@ -84,9 +80,6 @@ small-is n h = rw (lt-ltb n origin h)
 
 pub small-most : (n : ℕ) → small n < origin
 small-most n = if-on (λ (k : ℕ). k < origin) (ltb n origin) n 0 (λ e. ltb-true n origin e) (λ e. omega arith)
-
-pub decimal-small : (n : ℕ) → n < origin → decimal (small n) ≡ decimal n
-decimal-small n h = ap decimal (small-is n h)
 
 pub signed-near : (n : ℕ) → near n ≡ true → signedSmall n ≡ signedDecimal n
 unfolding signedSmall signedDecimal
