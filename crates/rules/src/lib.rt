@@ -1,4 +1,4 @@
-// The types that the promises name: what the lent rows hold, the colours, and the answers of reader, rewriter and finder.
+// The types that the promises name: what the lent rows hold, the colours, and the answers of reader, rewriter, finder and judging.
 // The rules of document 01 stand in specs/, in the document's order. There is no code here.
 
 // A glyph record (01, "What a record holds"): 40 bytes.
@@ -68,4 +68,18 @@ pub enum Respelling {
 pub enum Finding {
     Accepted { records: usize, hits: usize },
     Refused { number: u32, offset: usize },
+}
+
+// What a judging answers, room aside: how many records, entries and pages a stream has, and how long its spelling is.
+pub enum Judging {
+    Accepted {
+        records: usize,
+        entries: usize,
+        pages: u32,
+        spelling: usize,
+    },
+    Refused {
+        number: u32,
+        offset: usize,
+    },
 }

@@ -1,10 +1,14 @@
 -- What a turn asks, and where the names of the width list stand in the scratch row. Assumes nothing.
-use Prim.Native.Nat.{ℕ, _+_, _*_, _<_, _≤_}
+use Prim.Native.Nat.{ℕ, _+_, _-_, _*_, _<_, _≤_}
+use mathlib.Core.Bool.{Bool, true}
 use mathlib.Core.List.{List}
 use mathlib.Core.Path.{_≡_}
+use lib.Dec.{leb, ltb}
 use lib.ListN.{length, take, drop}
 use Rattle.widths.specs.Slots.{slotIn}
 use Rattle.reader.specs.declared.State.{State}
+use Rattle.reader.specs.declared.Emitted.{Emitted}
+use Rattle.reader.specs.declared.Emitted.the-variants as E
 use Rattle.reader.specs.Fits.{EnvFits}
 use Rattle.effects.specs.Bounds.{Small}
 
@@ -28,3 +32,10 @@ pub record Ready (n : ℕ) (st : State) : Type 0 where
   pub few : st .fonts ≤ 32
   pub records : st .records ≤ st .rmax
   pub entries : st .entries ≤ st .emax
+
+-- whether the rows have room for what a command gives
+abbrev pub hasRoom : State → Emitted → Bool
+hasRoom st E.Nothing = true
+hasRoom st (E.Record r) = ltb (st .records) (st .rmax)
+hasRoom st (E.Entry x) = ltb (st .entries) (st .emax)
+hasRoom st (E.Word w) = leb (w .left) (st .rmax - st .records)

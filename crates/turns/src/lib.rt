@@ -10,8 +10,9 @@ use reader::Turned;
 use reader::Word;
 use rules::Entry;
 use rules::Record;
+ghost use mathlib.Core.Bool.{true};
 ghost use mathlib.Core.Path.{_≡_};
-ghost use Prim.Native.Nat.{_+_, _≤_, _<_};
+ghost use Prim.Native.Nat.{_+_, _-_, _≤_, _<_};
 ghost use lib.ListN.{length, take, drop, set};
 ghost use Rattle.reader.specs.Environment.{inBody};
 ghost use Rattle.reader.specs.declared.Emitted.the-variants as E;
@@ -19,7 +20,7 @@ ghost use Rattle.reader.specs.Fits.{CommandIn};
 ghost use Rattle.reader.specs.Turns.{didAt, nextOf, scratchAfter, halted, goneTo, filling, emitted, doneOf, skipped, turnOn, turnOf, scratchOf};
 ghost use Rattle.command.specs.View.{commandAt};
 ghost use Rattle.effects.specs.Bounds.{Small};
-ghost use Rattle.turns.specs.Ready.{findIn, Scratch, Ready};
+ghost use Rattle.turns.specs.Ready.{findIn, hasRoom, Scratch, Ready};
 
 fn halted(st: State, k: u32) -> Turned
     ensures { λ r. ⌜ r ≡ halted st k ⌝ }
@@ -73,53 +74,57 @@ fn filling(fills: bool, f: Effect) -> Effect
 }
 
 fn record_out(n: usize, st: State, next: usize, e: Environment, x: Record) -> Turned
-    requires { ⌜ next ≤ n ⌝ }
+    requires { ⌜ (next ≤ n) × (st .records < st .rmax) ⌝ }
     ensures { λ r. ⌜ r ≡ emitted n st next e (E.Record x) ⌝ }
 {
-    if st.records < st.rmax {
-        let k = st.records;
-        Turned {
-            effect: filling(0 < st.fill, Effect::Record(k, x)),
-            state: gone_to(n, st, next, k + 1, st.entries, e),
-        }
-    } else {
-        halted(st, 13)
+    let k = st.records;
+    Turned {
+        effect: filling(0 < st.fill, Effect::Record(k, x)),
+        state: gone_to(n, st, next, k + 1, st.entries, e),
     }
 }
 
 fn entry_out(n: usize, st: State, next: usize, e: Environment, x: Entry) -> Turned
-    requires { ⌜ next ≤ n ⌝ }
+    requires { ⌜ (next ≤ n) × (st .entries < st .emax) ⌝ }
     ensures { λ r. ⌜ r ≡ emitted n st next e (E.Entry x) ⌝ }
 {
-    if st.entries < st.emax {
-        let k = st.entries;
-        Turned {
-            effect: filling(st.fill == 1, Effect::Entry(k, x)),
-            state: gone_to(n, st, next, st.records, k + 1, e),
-        }
-    } else {
-        halted(st, 13)
+    let k = st.entries;
+    Turned {
+        effect: filling(st.fill == 1, Effect::Entry(k, x)),
+        state: gone_to(n, st, next, st.records, k + 1, e),
     }
 }
 
 fn word_out(n: usize, st: State, next: usize, e: Environment, w: Word) -> Turned
-    requires { ⌜ (next ≤ n) × (st .records ≤ st .rmax) ⌝ }
+    requires { ⌜ (next ≤ n) × (st .records ≤ st .rmax) × (w .left ≤ st .rmax - st .records) ⌝ }
     ensures { λ r. ⌜ r ≡ emitted n st next e (E.Word w) ⌝ }
 {
     let k = st.records;
-    let room = st.rmax - k;
-    if room < w.left {
-        return halted(st, 13);
-    }
     Turned {
         effect: filling(0 < st.fill, Effect::Word(k, w)),
         state: gone_to(n, st, next, k + w.left, st.entries, e),
     }
 }
 
-// What a command gives goes to the rows: 13 where a row has no room for it.
+// Whether the rows have room for what a command gives.
+fn has_room(st: State, x: Emitted) -> bool
+    requires { ⌜ st .records ≤ st .rmax ⌝ }
+    ensures { λ r. ⌜ r ≡ hasRoom st x ⌝ }
+{
+    match x {
+        Emitted::Nothing => true,
+        Emitted::Record(_) => st.records < st.rmax,
+        Emitted::Entry(_) => st.entries < st.emax,
+        Emitted::Word(w) => {
+            let room = st.rmax - st.records;
+            w.left <= room
+        }
+    }
+}
+
+// What a command gives goes to the rows, which have room for it.
 fn put_out(n: usize, st: State, next: usize, e: Environment, x: Emitted) -> Turned
-    requires { ⌜ (next ≤ n) × (st .records ≤ st .rmax) ⌝ }
+    requires { ⌜ (next ≤ n) × (st .records ≤ st .rmax) × (hasRoom st x ≡ true) ⌝ }
     ensures { λ r. ⌜ r ≡ emitted n st next e x ⌝ }
 {
     match x {
@@ -133,6 +138,8 @@ fn put_out(n: usize, st: State, next: usize, e: Environment, x: Emitted) -> Turn
     }
 }
 
+// The state behind a command: its refusal, or 13 where a row has no room. Room is asked for before the new state is made: a function
+// that copies the environment from one of two places in the same way keeps the whole state in memory, at a great cost in time.
 fn done(n: usize, st: State, next: usize, d: Did) -> Turned
     requires { ⌜ (next ≤ n) × (st .records ≤ st .rmax) ⌝ }
     ensures { λ r. ⌜ r ≡ doneOf n st next d ⌝ }
@@ -140,7 +147,11 @@ fn done(n: usize, st: State, next: usize, d: Did) -> Turned
     if d.refusal == 0 {
         let e = d.env;
         let x = d.emitted;
-        put_out(n, st, next, e, x)
+        if has_room(st, x) {
+            put_out(n, st, next, e, x)
+        } else {
+            halted(st, 13)
+        }
     } else {
         halted(st, d.refusal)
     }

@@ -213,7 +213,7 @@ module _ {M : Type 1} (𝓤 : URA M) (H : Heap 𝓤) (A : Atoms 𝓤) (W : Given
       unfolding afterTurn
       ends d i row kn X =
           qed W (At (0, (d, (i, row)))) ∵ exec ! C Λ En mir.turn-1 (anyQ (afterTurn 𝓤 H X Left)) $
-          assigns ! (bin ! (lit ! tt) (load ! (from ! (fld ! refl (stop !))) (look-in ! 18 (sub ! 0 refl (whole !)))) tt) (from ! (stop !)) (init ! 12 refl (tt, tt)) $
+          assigns ! (bin ! (lit ! tt) (load ! (from ! (fld ! refl (stop !))) (look-in ! 18 (sub ! 10 refl (whole !)))) tt) (from ! (stop !)) (init ! 12 refl (tt, tt)) $
           rewrite ! 12 (λ (t : Bool). ‵ (fat fullShare tyBool l₉ 0 (vbool t))) (le-ltb 0 (d .left) over) refl $
           leaves-loop ! (load ! (from ! (stop !)) (look ! 12 refl)) $ exec ! C Λ En mir.t-4 (atRet En Post) $
           assigns ! (of-opd ! (unit-lit !)) (from ! (stop !)) (init ! 30 refl (tt, tt)) $
@@ -230,7 +230,7 @@ module _ {M : Type 1} (𝓤 : URA M) (H : Heap 𝓤) (A : Atoms 𝓤) (W : Given
       turn (zero, (d, (i, row))) kn X again = ends d i row kn X
       turn (suc n, (d, (i, row))) kn X again =
           qed W (At (suc n, (d, (i, row)))) ∵ exec ! C Λ En mir.turn-1 (anyQ (afterTurn 𝓤 H X Left)) $
-          assigns ! (bin ! (lit ! tt) (load ! (from ! (fld ! refl (stop !))) (look-in ! 18 (sub ! 0 refl (whole !)))) tt) (from ! (stop !)) (init ! 12 refl (tt, tt)) $
+          assigns ! (bin ! (lit ! tt) (load ! (from ! (fld ! refl (stop !))) (look-in ! 18 (sub ! 10 refl (whole !)))) tt) (from ! (stop !)) (init ! 12 refl (tt, tt)) $
           rewrite ! 12 (λ (t : Bool). ‵ (fat fullShare tyBool l₉ 0 (vbool t))) (lt-ltb 0 (d .left) going) refl $
           stays ! (load ! (from ! (stop !)) (look ! 12 refl)) $ forget ! 12 refl $
           -- `word_step`: s and ws are passed as copies, with their tokens, which come back

@@ -5,7 +5,6 @@ use Rattle.turns.proofs.record_out.Reads as reads
 use Rattle.turns.proofs.record_out.Lts as lts
 use Rattle.turns.proofs.filling.Reads as filling-reads
 use Rattle.turns.proofs.gone_to.Reads as gone-to-reads
-use Rattle.turns.proofs.halted.Reads as halted-reads
 
 filling-requires : tie.Need-filling-requires
 filling-requires c κs = search turning
@@ -16,16 +15,8 @@ add-gone-to c = search turning
 gone-to-requires : tie.Need-gone-to-requires
 gone-to-requires c κs = search turning
 
-halted-requires : tie.Need-halted-requires
-halted-requires c κs = search turning
-
 returns : tie.Need-returns
 returns c = search turning
 
-returns-2 : tie.Need-returns-2
-returns-2 c = search turning
-
 pub record-out-spec : {M : Type 1} → statement M
-record-out-spec =
-    tie.close
-    (tie.spec filling-requires add-gone-to gone-to-requires halted-requires returns returns-2)
+record-out-spec = tie.close (tie.spec filling-requires add-gone-to gone-to-requires returns)

@@ -1,0 +1,52 @@
+//! The standard files. Rust's start-up puts the null device in the place of a closed one, and its
+//! `stdout` takes a write to a file that is not open for writing as done: data would be lost without
+//! a word. So it is looked before the start-up which of them are closed, and they are used as plain
+//! files.
+
+use std::fs::File;
+use std::io;
+use std::os::fd::FromRawFd;
+use std::sync::atomic::{AtomicBool, Ordering};
+
+const INPUT: i32 = 0;
+const OUTPUT: i32 = 1;
+/// `fcntl`'s request that does nothing but fail where the file is not open, and the error it gives.
+const F_GETFD: i32 = 1;
+const EBADF: i32 = 9;
+
+static INPUT_CLOSED: AtomicBool = AtomicBool::new(false);
+static OUTPUT_CLOSED: AtomicBool = AtomicBool::new(false);
+
+extern "C" {
+    fn fcntl(file: i32, request: i32, ...) -> i32;
+}
+
+extern "C" fn look() {
+    // SAFETY: F_GETFD takes no argument and changes nothing
+    let is_closed = |file| unsafe { fcntl(file, F_GETFD) } == -1;
+    INPUT_CLOSED.store(is_closed(INPUT), Ordering::Relaxed);
+    OUTPUT_CLOSED.store(is_closed(OUTPUT), Ordering::Relaxed);
+}
+
+/// The loader calls what stands in this section before `main`.
+#[used]
+#[link_section = ".init_array"]
+static LOOK: extern "C" fn() = look;
+
+/// Standard input; to be taken once, as it is closed with the file.
+pub fn input() -> io::Result<File> {
+    open(INPUT, &INPUT_CLOSED)
+}
+
+/// Standard output; to be taken once.
+pub fn output() -> io::Result<File> {
+    open(OUTPUT, &OUTPUT_CLOSED)
+}
+
+fn open(file: i32, was_closed: &AtomicBool) -> io::Result<File> {
+    if was_closed.load(Ordering::Relaxed) {
+        return Err(io::Error::from_raw_os_error(EBADF));
+    }
+    // SAFETY: the file is open, and nothing else in the program uses it
+    Ok(unsafe { File::from_raw_fd(file) })
+}
