@@ -1,10 +1,11 @@
 /*
- * Mrkvandel: the proved reader, finder and rewriter of troff intermediate output, as C functions.
+ * Mrkvandel: the proved reader, finder and rewriter of troff intermediate output, and the judging of a stream, as C functions.
  *
- * The library is target/staticlib/libcapi.a, for x86-64 and the System V calling convention; `rt staticlib capi` proves and writes
- * it. Proved is what the functions answer and leave in the rows and the buffer; the compiler behind the proof, the way into C and
- * this header are tested (routines/). The source of these declarations is crates/capi/src/lib.rt and, for records, entries and
- * colours, crates/rules/src/lib.rt. What the answers mean is said in full by the definitions in crates/rules/specs.
+ * The library is target/lib/libmrkvandel.a, for x86-64 and the System V calling convention. The script ./build makes it from four
+ * static libraries, one for each function, which `rt staticlib` proves and writes. Proved is what the functions answer and leave in
+ * the rows and the buffer; the compiler behind the proof, the way into C and this header are tested (routines/). The source of these
+ * declarations is the src/lib.rt of crates/capi_read, capi_find, capi_respell and capi_judge and, for records, entries and colours,
+ * of crates/rules. What the answers mean is said in full by the definitions in crates/rules/specs.
  *
  * Of every function here:
  *   - An input, a row or the rewriter's buffer, which is a row of bytes, crosses as a pointer and the number of its items (bytes,
@@ -43,7 +44,7 @@ extern "C" {
  * Refusal numbers. The offset of a refusal is that of the first byte of the command at fault, counted from 0 in the stream,
  * unless it is said otherwise. A refusal with a smaller number comes first at one command; in all, 1 comes first, then 2, then 12,
  * then the first command at fault, and 13 last, when nothing else is against the inputs. The reader and the
- * rewriter, which have no query, answer 1 to 11 or 13, the finder 1 to 13.
+ * rewriter, which have no query, answer 1 to 11 or 13, the finder 1 to 13, and judging, which is lent no room, 1 to 11.
  */
 enum {
     /* no refusal */
@@ -142,6 +143,17 @@ typedef struct mrkvandel_respell_result {
     uint32_t refusal; /* 0 where nothing is refused, else the number of the refusal: 1 to 11 or 13 */
 } mrkvandel_respell_result;
 
+/* What judging answers: 40 bytes. */
+typedef struct mrkvandel_judge_result {
+    size_t offset;    /* of a refusal, see above; 0 where nothing is refused */
+    size_t records;   /* how many records the stream has; 0 in a refusal */
+    size_t entries;   /* how many entries it has; 0 in a refusal */
+    size_t spelling;  /* how many bytes its spelling has, MRKVANDEL_SPELLING_LIMIT + 1 where they are over that limit; 0 in a
+                         refusal */
+    uint32_t refusal; /* 0 where nothing is refused, else the number of the refusal: 1 to 11 */
+    uint32_t pages;   /* how many `p` the stream has; 0 in a refusal */
+} mrkvandel_judge_result;
+
 MRKVANDEL_ASSERT(sizeof(size_t) == 8, "the library is for x86-64");
 MRKVANDEL_ASSERT(sizeof(mrkvandel_record) == 40, "a record has 40 bytes");
 MRKVANDEL_ASSERT(sizeof(mrkvandel_entry) == 32, "an entry has 32 bytes");
@@ -149,6 +161,7 @@ MRKVANDEL_ASSERT(sizeof(mrkvandel_colour) == 20, "a colour has 20 bytes");
 MRKVANDEL_ASSERT(sizeof(mrkvandel_read_result) == 80, "the reader's answer has 80 bytes");
 MRKVANDEL_ASSERT(sizeof(mrkvandel_find_result) == 32, "the finder's answer has 32 bytes");
 MRKVANDEL_ASSERT(sizeof(mrkvandel_respell_result) == 24, "the rewriter's answer has 24 bytes");
+MRKVANDEL_ASSERT(sizeof(mrkvandel_judge_result) == 40, "the answer of judging has 40 bytes");
 
 /*
  * Reads a stream with its width list. `records` gets one record for each glyph, `entries` one entry for each `D` or `x` command,
@@ -203,12 +216,25 @@ mrkvandel_find_result mrkvandel_find(const uint8_t *stream, size_t stream_len, c
  * With the same width list the reader accepts the spelling and gives the same glyphs, drawings, controls, pages, end position and
  * colours as of the stream; and rewriting it gives it back, byte for byte. (Both proved.)
  *
- * A refusal, of an empty buffer too, does not tell how long the spelling would be. If any buffer is large enough, one of 16,777,216
- * bytes is; and one of 16 * n bytes for a stream of n bytes: a byte of a word gives at most 16 bytes of spelling, such as the lines
- * `H -99999999` and `c a`, and other commands give less for each of theirs. (The latter tested, not proved.)
+ * A refusal, of an empty buffer too, does not tell how long the spelling would be; `mrkvandel_judge` does. If any buffer is large
+ * enough, one of 16,777,216 bytes is; and one of 16 * n bytes for a stream of n bytes: a byte of a word gives at most 16 bytes of
+ * spelling, such as the lines `H -99999999` and `c a`, and other commands give less for each of theirs. (The latter tested, not
+ * proved.)
  */
 mrkvandel_respell_result mrkvandel_respell(const uint8_t *stream, size_t stream_len, const uint8_t *widths, size_t widths_len,
                                            uint8_t *out, size_t out_len);
+
+/*
+ * Judges a stream with its width list, room aside: whether the reader and the rewriter accept it where there is room enough, and how
+ * much that is.
+ *
+ * Accepted (refusal 0): the reader accepts it with a row of `records` records and one of `entries` entries, the finder with a row of
+ * `records` records and one of as many hits (where nothing is against the query), the rewriter with a buffer of `spelling` bytes.
+ * With less room the reader and the rewriter refuse it as 13. Where the spelling is over the limit, `spelling` is
+ * MRKVANDEL_SPELLING_LIMIT + 1, and the rewriter refuses it as 13 whatever the buffer.
+ * Refused: the reader and the rewriter refuse it with the same number and offset, whatever the room. It is 1 to 11, never 12 or 13.
+ */
+mrkvandel_judge_result mrkvandel_judge(const uint8_t *stream, size_t stream_len, const uint8_t *widths, size_t widths_len);
 
 #ifdef __cplusplus
 }

@@ -115,6 +115,13 @@ impl Colour {
 }
 
 extern "C" {
+    fn mrkvandel_judge(
+        stream: *const u8,
+        stream_len: usize,
+        widths: *const u8,
+        widths_len: usize,
+    ) -> JudgeResult;
+
     fn mrkvandel_read(
         stream: *const u8,
         stream_len: usize,
@@ -150,34 +157,9 @@ extern "C" {
 }
 
 /// Judges a stream with its width list, room aside.
-//
-// STAND-IN until the library has `mrkvandel_judge`.
 pub fn judge(stream: &[u8], widths: &[u8]) -> JudgeResult {
-    fn row<T: Clone + Default>(len: usize) -> Option<Vec<T>> {
-        let mut row = Vec::new();
-        row.try_reserve_exact(len).ok()?;
-        row.resize(len, T::default());
-        Some(row)
-    }
-    let mut room = 65_536;
-    let reading = loop {
-        let (Some(mut records), Some(mut entries)) = (row(room), row(room)) else {
-            // no memory: a number of records for which the caller has none either
-            return JudgeResult { records: usize::MAX, ..JudgeResult::default() };
-        };
-        let reading = read(stream, widths, &mut records, &mut entries);
-        if reading.refusal != 13 {
-            break reading;
-        }
-        room *= 4;
-    };
-    let ReadResult { offset, records, entries, refusal, pages, .. } = reading;
-    if refusal != 0 {
-        return JudgeResult { offset, refusal, ..JudgeResult::default() };
-    }
-    let spelled = respell(stream, widths, &mut vec![0; SPELLING_LIMIT]);
-    let spelling = if spelled.refusal == 0 { spelled.len } else { SPELLING_LIMIT + 1 };
-    JudgeResult { offset, records, entries, spelling, refusal, pages }
+    // SAFETY: as for `read`
+    unsafe { mrkvandel_judge(stream.as_ptr(), stream.len(), widths.as_ptr(), widths.len()) }
 }
 
 /// Reads a stream with its width list into the rows.

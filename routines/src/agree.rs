@@ -3,12 +3,13 @@
 use crate::expected::{self, Expected, ExpectedFinding, ExpectedSpelling};
 use crate::measure::{lengths, Answer, Seen};
 use crate::rows::{Item, Lent};
-use crate::{proved, Entry, FindResult, ReadResult, Record, RespellResult, Search};
+use crate::{proved, Entry, FindResult, JudgeResult, ReadResult, Record, RespellResult, Search};
 use second::generate::random::Random;
 use second::refusal::Rooms;
 
 /// A call of a proved routine: its answer, and the rows that it was lent. The other row is that of
 /// the entries, of the hits or of the spelling's bytes; a rewriter is lent no records, and has none here.
+/// Judging is lent neither.
 pub struct Call<A, T> {
     pub answer: A,
     pub records: Lent<Record>,
@@ -58,6 +59,11 @@ pub fn call_respell(stream: &[u8], list: &[u8], room: usize, random: &mut Random
     Call::new([0, room], random, |_, out| proved::respell(stream, list, out))
 }
 
+/// Calls judging.
+pub fn call_judge(stream: &[u8], list: &[u8]) -> Call<JudgeResult, u8> {
+    Call::new([0, 0], &mut Random::new(0), |_, _| proved::judge(stream, list))
+}
+
 /// Reads once and compares; the answer of both.
 pub fn reading(
     stream: &[u8],
@@ -100,6 +106,14 @@ pub fn respelling(
     let inputs = || format!("{}\n{}", shown("stream", stream), shown("list", list));
     let message = |message| format!("{message}\nroom for {room} bytes\n{}", inputs());
     call.compare(&expected).map(|()| call.answer).map_err(message)
+}
+
+/// Judges once and compares; the answer of both.
+pub fn judging(stream: &[u8], list: &[u8]) -> Result<JudgeResult, String> {
+    let call = call_judge(stream, list);
+    let inputs = || format!("{}\n{}", shown("stream", stream), shown("list", list));
+    let message = |message| format!("{message}\n{}", inputs());
+    call.compare(&expected::judge(stream, list)).map(|()| call.answer).map_err(message)
 }
 
 pub(crate) fn shown(name: &str, bytes: &[u8]) -> String {

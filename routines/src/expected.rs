@@ -1,12 +1,12 @@
 //! What the second program answers, and what it puts into the rows, in the library's structs.
 
-use crate::{Colour, Entry, FindResult, ReadResult, Record, RespellResult, Search};
-use second::refusal::{Refusal, Rooms};
+use crate::{Colour, Entry, FindResult, JudgeResult, ReadResult, Record, RespellResult, Search};
+use second::refusal::{Refusal, Rooms, NO_ROOM, SPELLING_LIMIT};
 use second::{Found, Reading};
 
 /// An answer and what the rows must hold from their start; behind it they are as before. The other
 /// row holds entries (the reader's), hits (the finder's) or the bytes of the spelling (the
-/// rewriter's, which has no records).
+/// rewriter's, which has no records). Judging has neither row.
 #[derive(Clone, Debug, PartialEq, Eq)]
 pub struct Expected<A, T> {
     pub answer: A,
@@ -17,6 +17,7 @@ pub struct Expected<A, T> {
 pub type ExpectedReading = Expected<ReadResult, Entry>;
 pub type ExpectedFinding = Expected<FindResult, u32>;
 pub type ExpectedSpelling = Expected<RespellResult, u8>;
+pub type ExpectedJudging = Expected<JudgeResult, u8>;
 
 /// The reader, for rows of the lengths that `rooms` says.
 pub fn read(stream: &[u8], list: &[u8], rooms: Rooms) -> ExpectedReading {
@@ -83,6 +84,33 @@ pub fn respell(stream: &[u8], list: &[u8], rooms: Rooms) -> ExpectedSpelling {
         }
     };
     Expected { answer, records: Vec::new(), others }
+}
+
+/// Judging: what the second program counts where the room is without limit.
+pub fn judge(stream: &[u8], list: &[u8]) -> ExpectedJudging {
+    let answer = match second::read(stream, list, Rooms::default()) {
+        Ok(reading) => JudgeResult {
+            offset: 0,
+            records: reading.records.len(),
+            entries: reading.entries.len(),
+            spelling: spelling_length(stream, list),
+            refusal: 0,
+            pages: reading.pages,
+        },
+        Err(Refusal { number, offset }) => {
+            JudgeResult { offset, refusal: number.into(), ..JudgeResult::default() }
+        }
+    };
+    Expected { answer, records: Vec::new(), others: Vec::new() }
+}
+
+/// Of a stream that is accepted; one more than the limit where the spelling is over it.
+fn spelling_length(stream: &[u8], list: &[u8]) -> usize {
+    match second::respell(stream, list, Rooms::default()) {
+        Ok(spelling) => spelling.len(),
+        Err(Refusal { number: NO_ROOM, .. }) => SPELLING_LIMIT + 1,
+        Err(refusal) => panic!("an accepted stream is not spelt: {refusal:?}"),
+    }
 }
 
 fn colour(colour: second::Colour) -> Colour {

@@ -1,5 +1,5 @@
-//! The proved routines, as the C functions of `crates/capi`, against the second program. `proved`
-//! calls the static library, `expected` asks the second program, and `agree` compares the answers
+//! The proved routines, as the C functions of `include/mrkvandel.h`, against the second program.
+//! `proved` calls the library, `expected` asks the second program, and `agree` compares the answers
 //! and all memory that was lent.
 
 pub mod agree;
@@ -12,4 +12,4 @@ pub mod shape;
 pub mod text;
 pub mod types;
 
-pub use types::{Colour, Entry, FindResult, ReadResult, Record, RespellResult, Search};
+pub use types::{Colour, Entry, FindResult, JudgeResult, ReadResult, Record, RespellResult, Search};

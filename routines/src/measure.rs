@@ -1,7 +1,7 @@
 //! How long the rows are that a routine is lent, against what its input needs; and the counts of
 //! what was seen.
 
-use crate::{FindResult, ReadResult, RespellResult};
+use crate::{FindResult, JudgeResult, ReadResult, RespellResult};
 use second::generate::random::Random;
 use std::fmt::Debug;
 use std::io::Write;
@@ -73,6 +73,19 @@ impl Answer for RespellResult {
 
     fn counts(&self) -> [usize; 2] {
         [0, self.len]
+    }
+}
+
+/// Judging is lent nothing.
+impl Answer for JudgeResult {
+    const MEASURES: &'static [Measure] = &[];
+
+    fn refusal(&self) -> u32 {
+        self.refusal
+    }
+
+    fn counts(&self) -> [usize; 2] {
+        [0, 0]
     }
 }
 

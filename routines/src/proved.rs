@@ -1,7 +1,7 @@
-//! The proved code, through the static library of `crates/capi`.
+//! The proved code, through the library `target/lib/libmrkvandel.a`.
 
 use crate::text::{found_text, glyphs_text};
-use crate::{Entry, FindResult, ReadResult, Record, RespellResult, Search};
+use crate::{Entry, FindResult, JudgeResult, ReadResult, Record, RespellResult, Search};
 use second::refusal::{Refusal, Rooms, SPELLING_LIMIT};
 use second::vectors::Program;
 
@@ -40,6 +40,13 @@ extern "C" {
         out: *mut u8,
         out_len: usize,
     ) -> RespellResult;
+
+    fn mrkvandel_judge(
+        stream: *const u8,
+        stream_len: usize,
+        widths: *const u8,
+        widths_len: usize,
+    ) -> JudgeResult;
 }
 
 /// Reads a stream with its width list into the rows.
@@ -93,6 +100,12 @@ pub fn respell(stream: &[u8], widths: &[u8], out: &mut [u8]) -> RespellResult {
             out.len(),
         )
     }
+}
+
+/// Judges a stream with its width list, room aside.
+pub fn judge(stream: &[u8], widths: &[u8]) -> JudgeResult {
+    // SAFETY: as for `read`
+    unsafe { mrkvandel_judge(stream.as_ptr(), stream.len(), widths.as_ptr(), widths.len()) }
 }
 
 /// The library as a program that answers texts, for the vectors.

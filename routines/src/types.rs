@@ -74,6 +74,18 @@ pub struct RespellResult {
     pub refusal: u32,
 }
 
+/// What judging answers; `refusal` is 0 where the stream is accepted.
+#[repr(C)]
+#[derive(Clone, Copy, Debug, Default, PartialEq, Eq)]
+pub struct JudgeResult {
+    pub offset: usize,
+    pub records: usize,
+    pub entries: usize,
+    pub spelling: usize,
+    pub refusal: u32,
+    pub pages: u32,
+}
+
 /// What is handed to the finder, its rows aside.
 #[derive(Clone, Copy)]
 pub struct Search<'a> {

@@ -1,12 +1,12 @@
 //! The comparison itself: whatever is wrong, anywhere, is reported.
 
-use routines::agree::{call_find, call_read, call_respell, Call};
+use routines::agree::{call_find, call_judge, call_read, call_respell, Call};
 use routines::expected::{self, Expected};
 use routines::kept::keeps_all;
 use routines::measure::Answer;
 use routines::proved::Proved;
 use routines::rows::{Item, Lent};
-use routines::{Entry, FindResult, ReadResult, Record, RespellResult, Search};
+use routines::{Entry, FindResult, JudgeResult, ReadResult, Record, RespellResult, Search};
 use second::generate::random::Random;
 use second::refusal::Rooms;
 use second::vectors::{run_all, BODY_HEAD, BODY_TAIL, SAMPLE_LIST};
@@ -38,6 +38,11 @@ fn respell(body: &[u8]) -> Case<RespellResult, u8> {
 fn respell_in(stream: &[u8], room: usize) -> Case<RespellResult, u8> {
     let call = call_respell(stream, SAMPLE_LIST, room, &mut Random::new(0));
     (call, expected::respell(stream, SAMPLE_LIST, Rooms { spelling: room, ..ROOMS }))
+}
+
+fn judge(body: &[u8]) -> Case<JudgeResult, u8> {
+    let stream = [BODY_HEAD, body, BODY_TAIL].concat();
+    (call_judge(&stream, SAMPLE_LIST), expected::judge(&stream, SAMPLE_LIST))
 }
 
 /// What is reported where `edit` makes something wrong in a case that is right.
@@ -101,6 +106,15 @@ fn a_wrong_answer_is_reported() {
         |answer| answer.refusal = 13,
     ];
     wrong.into_iter().for_each(|edit| assert_answer_is_reported(|| respell(b"q"), edit));
+    let wrong: [fn(&mut JudgeResult); 6] = [
+        |answer| answer.offset += 1,
+        |answer| answer.records += 1,
+        |answer| answer.entries -= 1,
+        |answer| answer.spelling += 1,
+        |answer| answer.refusal += 1,
+        |answer| answer.pages += 1,
+    ];
+    wrong.into_iter().for_each(|edit| assert_answer_is_reported(|| judge(BODY), edit));
 }
 
 /// Each number of a record.

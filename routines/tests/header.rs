@@ -1,7 +1,7 @@
 //! `include/mrkvandel.h` and this package's structs agree with each other and with the Rattle source,
 //! and the library can be called from C. It needs a C and a C++ compiler, `cc` and `c++`.
 
-use routines::{Colour, Entry, FindResult, ReadResult, Record, RespellResult};
+use routines::{Colour, Entry, FindResult, JudgeResult, ReadResult, Record, RespellResult};
 use second::generate::{case, search::search, Case};
 use second::print::{found_text, glyphs_text, refusal_text};
 use second::refusal::{self, Refusal, Rooms};
@@ -44,7 +44,7 @@ macro_rules! layout {
 }
 
 /// The structs, each with its fields in their order.
-fn layouts() -> [Layout; 6] {
+fn layouts() -> [Layout; 7] {
     [
         layout!(Record as mrkvandel_record: ordinal page h v font size place len index gap),
         layout!(Entry as mrkvandel_entry: command letter scheme ordinal place len h v),
@@ -52,6 +52,7 @@ fn layouts() -> [Layout; 6] {
         layout!(ReadResult as mrkvandel_read_result: offset records entries refusal pages h v glyph fill),
         layout!(FindResult as mrkvandel_find_result: offset records hits refusal),
         layout!(RespellResult as mrkvandel_respell_result: offset len refusal),
+        layout!(JudgeResult as mrkvandel_judge_result: offset records entries spelling refusal pages),
     ]
 }
 
@@ -84,6 +85,13 @@ fn text_of(path: &str) -> String {
     std::fs::read_to_string(in_repository(path)).unwrap_or_else(|error| panic!("{path}: {error}"))
 }
 
+/// The Rattle source of the exported functions, with their answers.
+fn exporting_source() -> String {
+    ["read", "find", "respell", "judge"]
+        .map(|name| text_of(&format!("crates/capi_{name}/src/lib.rt")))
+        .concat()
+}
+
 /// A compiler, and what makes it take a file as C11 or C++11.
 const C: [&str; 4] = ["cc", "-std=c11", "-x", "c"];
 const CPLUSPLUS: [&str; 4] = ["c++", "-std=c++11", "-x", "c++"];
@@ -96,7 +104,7 @@ fn compile(compiler: [&str; 4], file: &str, program: &Path) {
         .arg(in_repository("include"))
         .arg(in_repository("routines/tests").join(file))
         .args(["-x", "none"])
-        .arg(in_repository("target/staticlib/libcapi.a"))
+        .arg(in_repository("target/lib/libmrkvandel.a"))
         .arg("-o")
         .arg(program)
         .output();
@@ -161,7 +169,7 @@ fn rattle_struct<'a>(source: &'a str, name: &str) -> Vec<&'a str> {
 /// The same fields of the same types in the same order.
 #[test]
 fn the_source_has_the_same_structs() {
-    let source = text_of("crates/rules/src/lib.rt") + &text_of("crates/capi/src/lib.rt");
+    let source = text_of("crates/rules/src/lib.rt") + &exporting_source();
     for Layout { name, fields, .. } in layouts() {
         let lines: Vec<String> =
             fields.iter().map(|field| format!("pub {}: {},", field.name, field.kind)).collect();
@@ -206,8 +214,8 @@ fn c_declarations(source: &str) -> Vec<String> {
 fn the_header_declares_what_the_source_exports() {
     let header = text_of("include/mrkvandel.h");
     let plain = header.split_whitespace().collect::<Vec<_>>().join(" ");
-    let declarations = c_declarations(&text_of("crates/capi/src/lib.rt"));
-    assert!(!declarations.is_empty(), "nothing is exported");
+    let declarations = c_declarations(&exporting_source());
+    assert_eq!(declarations.len(), 4, "each crate exports one function");
     for declaration in &declarations {
         assert!(plain.contains(declaration), "the header has no\n{declaration}");
     }
@@ -274,6 +282,20 @@ fn the_rewriter_can_be_called_from_c_and_cplusplus() {
     let text: Text = |case| second::respell(&case.stream, &case.list, Rooms::default());
     for compiler in [C, CPLUSPLUS] {
         let accepted = count_agreed(compiler, "respell", case, 2, text);
+        assert!((10..90).contains(&accepted), "{accepted} of 100 streams are accepted");
+    }
+}
+
+#[test]
+fn judging_can_be_called_from_c_and_cplusplus() {
+    let text: Text = |case| {
+        let reading = second::read(&case.stream, &case.list, Rooms::default())?;
+        let spelling = second::respell(&case.stream, &case.list, Rooms::default())?;
+        let (records, entries) = (reading.records.len(), reading.entries.len());
+        Ok(format!("accepted {records} {entries} {} {}\n", reading.pages, spelling.len()).into_bytes())
+    };
+    for compiler in [C, CPLUSPLUS] {
+        let accepted = count_agreed(compiler, "judge", case, 2, text);
         assert!((10..90).contains(&accepted), "{accepted} of 100 streams are accepted");
     }
 }

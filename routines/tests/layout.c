@@ -70,6 +70,13 @@ static void print_colour_and_answers(void) {
     NUMBER(mrkvandel_respell_result, offset);
     NUMBER(mrkvandel_respell_result, len);
     NUMBER(mrkvandel_respell_result, refusal);
+    SIZE(mrkvandel_judge_result);
+    NUMBER(mrkvandel_judge_result, offset);
+    NUMBER(mrkvandel_judge_result, records);
+    NUMBER(mrkvandel_judge_result, entries);
+    NUMBER(mrkvandel_judge_result, spelling);
+    NUMBER(mrkvandel_judge_result, refusal);
+    NUMBER(mrkvandel_judge_result, pages);
 }
 
 static void print_values(void) {

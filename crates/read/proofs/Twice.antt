@@ -57,17 +57,22 @@ begin-ready n g e fonts unit fill a b c d z = record { some = z; ends = omega ar
 pub not-over : (s list : List ℕ) → (isOver streamMost s || isOver 65_536 list) ≡ false → length s ≤ 16777216
 not-over s list h = ltb-false streamMost (length s) (on (isOver streamMost s) (λ y. impossible (sym (rw y at h))) (λ y. y))
 
+-- a pass that fills nothing, with the scratch row of a sound list
+pub begin-sound : (s list : List ℕ) (w : Widths) → widthList list ≡ sound w → length s ≤ 16777216 → (ws : List ℕ) → ScratchOf list (w .fonts) ws → (g e rmax emax : ℕ)
+    → Sound (length s) ws g e (beginOf (length s) rmax emax (length (w .fonts)) (w .unitwidth) 0)
+begin-sound s list w q short ws k g e rmax emax = record {
+  scratch = k .scratch;
+  ready = begin-ready (length s) rmax emax (length (w .fonts)) (w .unitwidth) 0 short (sound-few list w q) (sound-unit list w q .0) (sound-unit list w q .1);
+  fits = start-fits 0;
+  rmax = λ y. impossible y;
+  emax = λ y. impossible y;
+}
+
 -- what the judging pass asks
 module _ (s list : List ℕ) (a : State) (ws : List ℕ) (g e : ℕ) where
   with-sound : (isOver streamMost s || isOver 65_536 list) ≡ false → (x : WidthList) → widthList list ≡ x → StartedWith (length s) list a ws x → Sound (length s) ws g e a
   with-sound z (unsound at) q h = subst (Sound (length s) ws g e) (sym (h .0)) (refused-sound (length s) ws g e 2 at (h .1))
-  with-sound z (sound w) q h = subst (Sound (length s) ws g e) (sym (h .0)) (record {
-    scratch = h .1 .scratch;
-    ready = begin-ready (length s) (length s) (length s) (length (w .fonts)) (w .unitwidth) 0 (not-over s list z) (sound-few list w q) (sound-unit list w q .0) (sound-unit list w q .1);
-    fits = start-fits 0;
-    rmax = λ y. impossible y;
-    emax = λ y. impossible y;
-  })
+  with-sound z (sound w) q h = subst (Sound (length s) ws g e) (sym (h .0)) (begin-sound s list w q (not-over s list z) ws (h .1) g e (length s) (length s))
 
   or-sound : (b : Bool) → (isOver streamMost s || isOver 65_536 list) ≡ b → StartedOr b s list a ws → Sound (length s) ws g e a
   or-sound true z h = subst (Sound (length s) ws g e) (sym (h .0)) (refused-sound (length s) ws g e 1 0 (h .1))
@@ -104,7 +109,7 @@ module _ (s list : List ℕ) (a : State) (ws : List ℕ) where
   or-case true z h = inl (record { number = 1; offset = 0; state = h .0; some = omega arith; answered = rw z })
   or-case false z h = with-case z (widthList list) refl h
 
-  started-case : Started s list a ws → Off s list a ⊎ On s list a ws
+  pub started-case : Started s list a ws → Off s list a ⊎ On s list a ws
   started-case h = or-case (isOver streamMost s || isOver 65_536 list) refl h
 
 -- a pass that does not go on
@@ -117,7 +122,7 @@ or-true true b e h = h
 or-true false b e h = sym e ∙ h
 
 -- a pass that begins with the scratch row of a sound list ends as the rules say
-run-ends : (s list : List ℕ) (w : Widths) → widthList list ≡ sound w → (ws : List ℕ) → ScratchOf list (w .fonts) ws → AreBytes s → (g e fill : ℕ) (rs : List Record) (es : List Entry)
+pub run-ends : (s list : List ℕ) (w : Widths) → widthList list ≡ sound w → (ws : List ℕ) → ScratchOf list (w .fonts) ws → AreBytes s → (g e fill : ℕ) (rs : List Record) (es : List Entry)
     → Room (length s) (follow w start (commands 0 0 s)) (beginOf (length s) g e (length (w .fonts)) (w .unitwidth) fill)
     → Ended (follow w start (commands 0 0 s)) (passFrom (beginOf (length s) g e (length (w .fonts)) (w .unitwidth) fill) ws rs es) (passOf (findIn list (length (w .fonts)) ws) s (passFrom (beginOf (length s) g e (length (w .fonts)) (w .unitwidth) fill) ws rs es))
 run-ends s list w q ws k y g e fill rs es r =

@@ -14,7 +14,8 @@ use Rattle.read.proofs.Twice as T
 use Rattle.spelling.specs.declared.Writing.{Writing}
 use Rattle.spelling.specs.Passes.{passOf}
 use Rattle.speller.specs.Speller.{beginAt, passAt, Measured, nextOf, answerOf, Respelled}
-use Rattle.speller.proofs.Twice.{first-scratch, second-sound, spells-as}
+use Rattle.speller.proofs.First.{first-scratch}
+use Rattle.speller.proofs.Twice.{second-sound, spells-as}
 
 -- a pass from x to w
 abbrev Runs : List ℕ → List ℕ → Writing → List ℕ → List ℕ → Writing → List ℕ → List ℕ → Type 0

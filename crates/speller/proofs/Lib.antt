@@ -1,3 +1,4 @@
+pub mod First
 pub mod Twice
 pub mod Around
 pub mod Joined

@@ -72,12 +72,12 @@ fn answer(w: Writing) -> Respelling
 }
 
 // A buffer whose bytes are not wanted.
-fn no_bytes() -> [u8; 1] {
+pub fn no_bytes() -> [u8; 1] {
     [0u8; 1]
 }
 
 // The first pass: it judges the stream and measures its spelling.
-fn measure(none: &mut [u8], ws: &mut [u32], s: &[u8], list: &[u8]) -> Writing
+pub fn measure(none: &mut [u8], ws: &mut [u32], s: &[u8], list: &[u8]) -> Writing
     requires { ⌜ Scratch (now ws) ⌝ }
     ensures { λ r. ⌜ Measured (now (s .entry)) (now (list .entry)) r (now (ws .exit)) ⌝ }
 {
