@@ -1,11 +1,12 @@
--- The theorems of demands 2 and 3, as statements about the answer functions of the rules (`read`, `respell`, `find`), for every
--- list of bytes, width list and query. The proofs stand in `proofs/`. Assumes nothing.
-use Prim.Native.Nat.{ℕ, _+_, _<_, _≤_}
+-- The theorems of demands 2 and 3, as statements about the answer functions of the rules (`read`, `respell`, `find`, `judge`), for
+-- every list of bytes, width list and query. The proofs stand in `proofs/`. Assumes nothing.
+use Prim.Native.Nat.{ℕ, suc, _+_, _<_, _≤_}
 use mathlib.Core.Bool.{Bool, true, false}
 use mathlib.Core.List.{List, [], _∷_, _++_, map}
 use mathlib.Core.Logic.{_⊎_}
 use mathlib.Core.Path.{_≡_}
 use lib.ListN.{length, take, drop}
+use Rattle.rules.specs.declared.Judging.the-variants as J
 use Rattle.rules.specs.Bytes.{isWhite, origin}
 use Rattle.rules.specs.Act.{Act, glyph, raw, Cmd, just, word, pair}
 use Rattle.rules.specs.House.{played, spelling, spellAll}
@@ -14,7 +15,7 @@ use Rattle.rules.specs.Widths.{Widths, sound, widthList}
 use Rattle.rules.specs.State.{Spot, corner, Paint, noPaint, Env, Glyph, Item, start}
 use Rattle.rules.specs.Record.{GlyphRow, ItemRow, Answer, refuse, answer}
 use Rattle.rules.specs.Find.{Wanted, Key, Query, wellFormed, query, hitsFrom}
-use Rattle.rules.specs.Answers.{streamMost, isOver, readWith, read, readInto, isAccepted, Spelling, notSpelled, spelled, respell, respellInto, Found, notFound, found, keyOf, findWith, find, findInto}
+use Rattle.rules.specs.Answers.{streamMost, isOver, readWith, read, readInto, isAccepted, Spelling, notSpelled, spelled, respell, respellInto, Found, notFound, found, keyOf, findWith, find, findInto, judge}
 use Rattle.reading.specs.Outline.{Mark, marksOf, outline}
 use Rattle.reading.specs.Kept.{unmotioned}
 use Rattle.finding.specs.Occurs.{keyAt, QueryShape, OccursAt, Elem, Rising}
@@ -206,6 +207,34 @@ pub record Roomy : Type 0 where
   pub rewriter : (room : ℕ) (s list t : List ℕ) → respell s list ≡ spelled t → length t ≤ room → respellInto room s list ≡ spelled t
   pub finder : (records hits : ℕ) (s list q : List ℕ) (rs : List GlyphRow) (is : List ℕ) → find s list q ≡ found rs is → length rs ≤ records → length is ≤ hits
       → findInto records hits s list q ≡ found rs is
+
+-- ---- what the judge's answer says of the other routines: whoever lends what it asks for is never refused for room (house)
+
+-- r records, x entries, p pages and t bytes of spelling are the four numbers of an acceptance
+pub record Judged : Type 0 where
+  -- it refuses as the reader does, room aside, and nothing else: the same number at the same place
+  pub refused : (s list : List ℕ) (n at : ℕ) → judge s list ≡ J.Refused n at → read s list ≡ refuse n at
+  pub refuses : (s list : List ℕ) (n at : ℕ) → read s list ≡ refuse n at → judge s list ≡ J.Refused n at
+  -- never with 12 or 13
+  pub numbers : (s list : List ℕ) (n at : ℕ) → judge s list ≡ J.Refused n at → (1 ≤ n) × (n ≤ 11)
+  -- what it accepts, the reader accepts, with just so many records, entries and pages
+  pub accepted : (s list : List ℕ) (r x p t : ℕ) → judge s list ≡ J.Accepted r x p t
+      → (rs : List GlyphRow) × (xs : List ItemRow) × (e : Env) × (read s list ≡ answer rs xs e) × (length rs ≡ r) × (length xs ≡ x) × (e .ordinal ≡ p)
+  -- with r places for records and x for entries, or more, the reader answers as it does where room is no matter
+  pub reader : (s list : List ℕ) (r x p t records entries : ℕ) → judge s list ≡ J.Accepted r x p t → r ≤ records → x ≤ entries → readInto records entries s list ≡ read s list
+  -- a spelling within its limit has t bytes, and the rewriter gives it to a buffer of t bytes or more
+  pub rewriter : (s list : List ℕ) (r x p t room : ℕ) → judge s list ≡ J.Accepted r x p t → t ≤ streamMost → t ≤ room
+      → (u : List ℕ) × (respellInto room s list ≡ spelled u) × (length u ≡ t)
+  -- a spelling over its limit is told by one byte more than the limit: no buffer is large enough. t is never more than that
+  pub rewriter-over : (s list : List ℕ) (r x p t room : ℕ) → judge s list ≡ J.Accepted r x p t → t ≡ suc streamMost → respellInto room s list ≡ notSpelled 13 0
+  pub spelling-most : (s list : List ℕ) (r x p t : ℕ) → judge s list ≡ J.Accepted r x p t → t ≤ suc streamMost
+  -- with r places for records and r for hits, or more, the finder answers any query as it does where room is no matter: never with 13,
+  -- and a well-formed query with r records
+  pub finder : (s list q : List ℕ) (r x p t records hits : ℕ) → judge s list ≡ J.Accepted r x p t → r ≤ records → r ≤ hits → findInto records hits s list q ≡ find s list q
+  pub finder-never-13 : (s list q : List ℕ) (r x p t records hits n at : ℕ) → judge s list ≡ J.Accepted r x p t → r ≤ records → r ≤ hits
+      → findInto records hits s list q ≡ notFound n at → n ≡ 13 → ⊥
+  pub finder-found : (s list q : List ℕ) (qs : List Wanted) (r x p t records hits : ℕ) → judge s list ≡ J.Accepted r x p t → r ≤ records → r ≤ hits → query q ≡ wellFormed qs
+      → (rs : List GlyphRow) × (is : List ℕ) × (findInto records hits s list q ≡ found rs is) × (length rs ≡ r)
 
 -- ---- the limits that no sample reaches, as 01 has them: 16,777,216 bytes of a stream and of a spelling, 65,536 of a list, 8,192 of a
 -- query, 4,096 of a text; each number itself is allowed

@@ -1,0 +1,42 @@
+#!/usr/bin/env bash
+# The example of the guide, examples/find.c, compiled against the library that ./build makes, and run on the sample ruling.
+set -u
+cd "$(dirname "$0")/.." || exit 2
+work=$(mktemp -d)
+trap 'rm -rf "$work"' EXIT
+passed=0
+failed=0
+
+count() { # CASE STATUS
+    if [ "$2" -eq 0 ]; then
+        passed=$((passed + 1))
+        echo "example: $1: as expected"
+    else
+        failed=$((failed + 1))
+        echo "example: $1: failed"
+    fi
+}
+
+# Runs the example on the ruling with a query and compares what it prints, and its status.
+run() { # CASE QUERY STATUS EXPECTED
+    printf '%b' "$2" > "$work/query"
+    "$work/find" samples/ruling.out samples/ruling.widths "$work/query" > "$work/out"
+    local status=$?
+    printf '%b' "$4" > "$work/expected"
+    [ "$status" -eq "$3" ] && cmp "$work/out" "$work/expected"
+    count "$1" $?
+}
+
+cc -std=c11 -pedantic -Wall -Wextra -Werror -Iinclude examples/find.c target/lib/libmrkvandel.a -o "$work/find"
+count 'compiles without a warning' $?
+village="glyph=V\nglyph=a\nglyph=l\nglyph='e\nglyph=n\nglyph=o\nglyph=u\n"
+run 'an accented village' "$village" 0 \
+    'record 95, page 1\nrecord 145, page 1\nrecord 1519, page 2\nrecord 1626, page 2\n4 hits, refusal 0 at 0\n'
+run 'a word that does not occur' 'glyph=f\nglyph=i\nglyph=e\nglyph=l\nglyph=d\n' 0 '0 hits, refusal 0 at 0\n'
+run 'a wrong query' 'glyph=f\ngap=any\n' 1 '0 hits, refusal 12 at 8\n'
+"$work/find" samples/ruling.out samples/ruling.widths "$work/missing" 2> "$work/said"
+[ $? -eq 2 ] && grep -q missing "$work/said"
+count 'a missing file' $?
+
+echo "$passed passed, $failed failed"
+[ "$failed" -eq 0 ]
