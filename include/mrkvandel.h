@@ -225,13 +225,13 @@ mrkvandel_respell_result mrkvandel_respell(const uint8_t *stream, size_t stream_
                                            uint8_t *out, size_t out_len);
 
 /*
- * Judges a stream with its width list, room aside: whether the reader and the rewriter accept it where there is room enough, and how
- * much that is.
+ * Judges a stream with its width list, room aside: whether the reader accepts it where there is room enough, and the rewriter too
+ * unless the spelling is over its limit; and how much room that is.
  *
  * Accepted (refusal 0): the reader accepts it with a row of `records` records and one of `entries` entries, the finder with a row of
- * `records` records and one of as many hits (where nothing is against the query), the rewriter with a buffer of `spelling` bytes.
- * With less room the reader and the rewriter refuse it as 13. Where the spelling is over the limit, `spelling` is
- * MRKVANDEL_SPELLING_LIMIT + 1, and the rewriter refuses it as 13 whatever the buffer.
+ * `records` records and one of as many hits (where nothing is against the query), the rewriter with a buffer of `spelling` bytes, or,
+ * where `spelling` is MRKVANDEL_SPELLING_LIMIT + 1, with none: then the spelling is over its limit, and the rewriter refuses it as 13.
+ * With less room the reader and the rewriter refuse it as 13. (All proved: `Judged` in crates/theorems.)
  * Refused: the reader and the rewriter refuse it with the same number and offset, whatever the room. It is 1 to 11, never 12 or 13.
  */
 mrkvandel_judge_result mrkvandel_judge(const uint8_t *stream, size_t stream_len, const uint8_t *widths, size_t widths_len);

@@ -90,6 +90,15 @@ pub struct Progress {
 /// A line that is longer might be broken, and then no longer be erased.
 const MOST_COLUMNS: usize = 79;
 
+/// A character beyond ASCII may take two.
+fn most_columns(character: char) -> usize {
+    if character.is_ascii() {
+        1
+    } else {
+        2
+    }
+}
+
 impl Progress {
     /// Shown where it is wanted and standard error is a terminal.
     pub fn new(is_wanted: bool) -> Progress {
@@ -103,8 +112,13 @@ impl Progress {
         self.erase(output);
         let name = source.shown();
         let line = format!("{number} of {of}, {}", String::from_utf8_lossy(&name));
-        let cut: String = line.chars().take(MOST_COLUMNS).collect();
-        self.width = cut.chars().count();
+        let mut width = 0;
+        let fits = |character: &char| {
+            width += most_columns(*character);
+            width <= MOST_COLUMNS
+        };
+        let cut: String = line.chars().take_while(fits).collect();
+        self.width = width.min(MOST_COLUMNS);
         output.write_error(cut.as_bytes());
     }
 

@@ -5,7 +5,7 @@ use crate::args::{Command, Job, Query};
 use crate::check::{self, Progress, Totals};
 use crate::files::Source;
 use crate::json;
-use crate::output::{Output, FAILED, REFUSED};
+use crate::output::{Output, REFUSED};
 use crate::reasons::{About, Explained};
 use crate::text;
 
@@ -74,7 +74,7 @@ impl<'a> Printer<'a> {
         }
     }
 
-    /// The line for people; a row of the table says all of it already.
+    /// The line for people; a row of the table says all of it already, the column aside.
     fn refused(&mut self, source: &Source, explained: &Explained) {
         self.output.raise(REFUSED);
         if self.form == Form::Table && self.output.is_open() {
@@ -107,8 +107,7 @@ impl<'a> Printer<'a> {
             Form::Table if about == About::Stream => check::unreadable(out, name, message),
             Form::Table => Ok(()),
         });
-        self.output.raise(FAILED);
-        self.output.say(&source.shown(), message);
+        self.output.fail(&source.shown(), message);
     }
 
     /// Behind the last stream: the exit status.

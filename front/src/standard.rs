@@ -14,8 +14,9 @@ const OUTPUT: i32 = 1;
 const F_GETFD: i32 = 1;
 const EBADF: i32 = 9;
 
-static INPUT_CLOSED: AtomicBool = AtomicBool::new(false);
-static OUTPUT_CLOSED: AtomicBool = AtomicBool::new(false);
+/// Whether the file was closed from the start, or has been taken.
+static INPUT_GONE: AtomicBool = AtomicBool::new(false);
+static OUTPUT_GONE: AtomicBool = AtomicBool::new(false);
 
 extern "C" {
     fn fcntl(file: i32, request: i32, ...) -> i32;
@@ -24,8 +25,8 @@ extern "C" {
 extern "C" fn look() {
     // SAFETY: F_GETFD takes no argument and changes nothing
     let is_closed = |file| unsafe { fcntl(file, F_GETFD) } == -1;
-    INPUT_CLOSED.store(is_closed(INPUT), Ordering::Relaxed);
-    OUTPUT_CLOSED.store(is_closed(OUTPUT), Ordering::Relaxed);
+    INPUT_GONE.store(is_closed(INPUT), Ordering::Relaxed);
+    OUTPUT_GONE.store(is_closed(OUTPUT), Ordering::Relaxed);
 }
 
 /// The loader calls what stands in this section before `main`.
@@ -33,20 +34,20 @@ extern "C" fn look() {
 #[link_section = ".init_array"]
 static LOOK: extern "C" fn() = look;
 
-/// Standard input; to be taken once, as it is closed with the file.
+/// Standard input, once: it is closed with the file.
 pub fn input() -> io::Result<File> {
-    open(INPUT, &INPUT_CLOSED)
+    take(INPUT, &INPUT_GONE)
 }
 
-/// Standard output; to be taken once.
+/// Standard output, once.
 pub fn output() -> io::Result<File> {
-    open(OUTPUT, &OUTPUT_CLOSED)
+    take(OUTPUT, &OUTPUT_GONE)
 }
 
-fn open(file: i32, was_closed: &AtomicBool) -> io::Result<File> {
-    if was_closed.load(Ordering::Relaxed) {
+fn take(file: i32, is_gone: &AtomicBool) -> io::Result<File> {
+    if is_gone.swap(true, Ordering::Relaxed) {
         return Err(io::Error::from_raw_os_error(EBADF));
     }
-    // SAFETY: the file is open, and nothing else in the program uses it
+    // SAFETY: the file is open, is handed out here alone and only once, and nothing else uses it
     Ok(unsafe { File::from_raw_fd(file) })
 }
