@@ -14,7 +14,7 @@ use Rattle.rules.specs.Bytes.{if_then_else_, is, isSpace, isWhite, isNotWhite, 
 use Rattle.rules.specs.Act.{Plain, pause, trailer, height, slant, underline, Act, device, resolution, init, file, mount, plain, raw, stop, just}
 use Rattle.rules.specs.Letters.{Draft, fault, draft, withAll, named, numberNamed}
 use Rattle.rules.specs.Drawing.{closed}
-use Rattle.rules.specs.Controls.{alone, resolutionOf, rawText, rawLength, rawly, control}
+use Rattle.rules.specs.Controls.{resolutionOf, rawText, rawLength, rawly, control}
 use Rattle.rules.specs.Record.{plainLetter}
 use Rattle.rules.specs.Scan.{limits, plainLimits, outside, isPosition, isPositive, letter}
 use Rattle.laws.proofs.Cases.{on, length-span}
@@ -30,8 +30,10 @@ use Rattle.lex.specs.declared.Three.{Three}
 use Rattle.lex.specs.declared.Three.the-variants as C
 use Rattle.lex.proofs.Runs.{unspaced-at}
 use Rattle.lex.proofs.Nums.{OneNums, one-nums, ThreeNums, three-nums}
-use Rattle.controls.specs.Parts.{withinOr, endedAt, namedTo, nameFrom, nameTo, nameBy, deviceAt, fileAt, mountedAt, mountBy, mountAt, plainBy, plainAt, resolutionBy, resolutionAt, textAt, rawAt}
-use Rattle.controls.proofs.Places.{answered, short-back, nums-back, draft-is, closed-is, outside-more, within-cut, answer-cut}
+use Rattle.controls.specs.Parts.{namedTo, nameFrom, nameTo, nameBy, deviceAt, fileAt, mountedAt, mountBy, mountAt, plainBy, plainAt, resolutionBy, resolutionAt, textAt, rawAt}
+use Rattle.closing.specs.Closed.{withinOr, endedAt}
+use Rattle.closing.proofs.Places.{answered, short-back, nums-back, within-cut}
+use Rattle.controls.proofs.Places.{draft-is, closed-is, outside-more, answer-cut}
 
 -- ---- a string
 

@@ -1,7 +1,7 @@
 -- The answer of each return, in the form in which `search` applies it, and the ruleset by which it answers every need of this crate.
 -- Assumes nothing.
 use Prim.Native.Nat.{ℕ, _+_, _-_, _≤_, _<_}
-use mathlib.Core.Bool.{Bool, true, false}
+use mathlib.Core.Bool.{Bool}
 use mathlib.Core.List.{List}
 use mathlib.Core.Path.{_≡_, sym, _∙_}
 use lib.Dec.{leb}
@@ -14,29 +14,17 @@ use Rattle.laws.proofs.Cases.{on}
 use Rattle.command.specs.View.{letterAt}
 use Rattle.command.specs.declared.Command.{Command}
 use Rattle.command.specs.declared.Command.the-variants as K
-use Rattle.lex.specs.At.{runEnd, breaksAt, oneAt, threeAt}
+use Rattle.lex.specs.At.{runEnd, oneAt, threeAt}
 use Rattle.lex.specs.declared.One.{One}
 use Rattle.lex.specs.declared.One.the-variants as A
 use Rattle.lex.specs.declared.Three.{Three}
 use Rattle.lex.specs.declared.Three.the-variants as C
 use Rattle.lex.proofs.Runs.{run-from}
-use Rattle.controls.specs.Parts.{withinOr, endedAt, namedTo, shortName, deviceAt, fileAt, mountedAt, mountAt, plainAt, resolutionAt, textAt, rawAt}
+use Rattle.closing.specs.Closed.{withinOr, endedAt}
+use Rattle.controls.specs.Parts.{namedTo, shortName, deviceAt, fileAt, mountedAt, mountAt, plainAt, resolutionAt, textAt, rawAt}
 use Rattle.controls.specs.declared.Text.{Text}
 use Rattle.controls.proofs.Forms.{byWord, word-none, word-is}
 use Rattle.controls.proofs.Texts.{step-over, step-byte, step-plus, step-end, text-start, text-stop, text-more, text-less, place-fits, length-fits}
-
-pub within-yes : (t : Bool) (k : ℕ) (c : Command) → t ≡ true → c ≡ withinOr t k c
-within-yes t k c e = rw e
-
-pub within-no : (t : Bool) (k : ℕ) (c : Command) → t ≡ false → K.Refused 6 k ≡ withinOr t k c
-within-no t k c e = rw e
-
-module _ (s : List ℕ) (at n : ℕ) (c : Command) (t : Bool) (e : t ≡ breaksAt s n) where
-  pub ending-yes : t ≡ true → c ≡ endedAt s at n c
-  ending-yes f = rw (sym e ∙ f)
-
-  pub ending-no : t ≡ false → K.Refused 5 at ≡ endedAt s at n c
-  ending-no f = rw (sym e ∙ f)
 
 -- ---- names
 
@@ -119,4 +107,4 @@ no-letter s at i j p h q n =
     ∙ rw (ne-eqb b 84 (n .0 .0 .0 .0 .0 .0 .0 .0 .0 .0 .0 .1), ne-eqb b 114 (n .0 .0 .0 .0 .0 .0 .0 .0 .0 .0 .1), ne-eqb b 105 (n .0 .0 .0 .0 .0 .0 .0 .0 .0 .1), ne-eqb b 70 (n .0 .0 .0 .0 .0 .0 .0 .0 .1), ne-eqb b 102 (n .0 .0 .0 .0 .0 .0 .0 .1), ne-eqb b 72 (n .0 .0 .0 .0 .0 .0 .1), ne-eqb b 83 (n .0 .0 .0 .0 .0 .1), ne-eqb b 112 (n .0 .0 .0 .0 .1), ne-eqb b 116 (n .0 .0 .0 .1), ne-eqb b 117 (n .0 .0 .1), ne-eqb b 115 (n .0 .1), ne-eqb b 88 (n .1))
     (on (isWhite b) (λ w. rw w) (λ w. rw w)))
 
-pub ruleset steps = (within-yes, within-no, ending-yes, ending-no, named-none, named-some, name-order, device-is, file-is, mounted-is, mount-short, mount-read, plain-short, plain-read, resolution-short, resolution-read, step-over, step-byte, step-plus, step-end, text-start, text-stop, text-more, text-less, place-fits, length-fits, raw-is, word-none, by-letter, no-letter, needs)
+pub ruleset steps = (named-none, named-some, name-order, device-is, file-is, mounted-is, mount-short, mount-read, plain-short, plain-read, resolution-short, resolution-read, step-over, step-byte, step-plus, step-end, text-start, text-stop, text-more, text-less, place-fits, length-fits, raw-is, word-none, by-letter, no-letter, needs)

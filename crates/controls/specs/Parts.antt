@@ -1,6 +1,5 @@
 -- What the parts of the control scanner answer, at places of the whole list. Assumes nothing.
 use Prim.Native.Nat.{ℕ, _+_, _-_}
-use mathlib.Core.Bool.{Bool}
 use mathlib.Core.List.{List, [], _∷_}
 use lib.Dec.{leb}
 use lib.ListN.{length, drop}
@@ -9,20 +8,13 @@ use Rattle.rules.specs.Controls.{rawText, rawLength}
 use Rattle.rules.specs.Scan.{isPosition, isPositive}
 use Rattle.command.specs.declared.Command.{Command}
 use Rattle.command.specs.declared.Command.the-variants as K
-use Rattle.lex.specs.At.{runEnd, breaksAt, oneAt, threeAt}
+use Rattle.lex.specs.At.{runEnd, oneAt, threeAt}
 use Rattle.lex.specs.declared.One.{One}
 use Rattle.lex.specs.declared.One.the-variants as A
 use Rattle.lex.specs.declared.Three.{Three}
 use Rattle.lex.specs.declared.Three.the-variants as C
+use Rattle.closing.specs.Closed.{withinOr, endedAt}
 use Rattle.controls.specs.declared.Text.{Text}
-
--- an argument that begins at a place is within its limit
-abbrev pub withinOr : Bool → ℕ → Command → Command
-withinOr t place c = if t then c else K.Refused 6 place
-
--- the line breaks behind the last argument
-abbrev pub endedAt : List ℕ → ℕ → ℕ → Command → Command
-endedAt s at next c = if breaksAt s next then c else K.Refused 5 at
 
 -- ---- of the command at a place, the arguments from i on
 

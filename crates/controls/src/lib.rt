@@ -4,23 +4,16 @@ use command::Command;
 use lex::One;
 use lex::Three;
 ghost use mathlib.Core.Path.{_≡_};
-ghost use Prim.Native.Nat.{_-_, _<_};
+ghost use Prim.Native.Nat.{_<_};
 ghost use lib.ListN.{length};
-ghost use Rattle.rules.specs.Bytes.{within};
 ghost use Rattle.rules.specs.Scan.{isPosition, isPositive};
 ghost use Rattle.command.specs.View.{letterAt};
-ghost use Rattle.controls.specs.Parts.{withinOr, endedAt, namedTo, shortName, deviceAt, fileAt, mountedAt, mountAt, plainAt, resolutionAt, stepAt, textAt, rawAt};
+ghost use Rattle.controls.specs.Parts.{namedTo, shortName, deviceAt, fileAt, mountedAt, mountAt, plainAt, resolutionAt, stepAt, textAt, rawAt};
 
 // The text of `x X`: its length, with the newlines that are added, and the place behind its last line.
 struct Text {
     len: usize,
     next: usize,
-}
-
-fn is_within(lo: u32, hi: u32, n: u32) -> bool
-    ensures { λ r. ⌜ r ≡ within lo hi n ⌝ }
-{
-    (lo <= n) & (n <= hi)
 }
 
 // From 1 to 99,999,999.
@@ -37,38 +30,6 @@ fn is_position(n: u32) -> bool
     (100_000_000 <= n) & (n <= 100_000_255)
 }
 
-// A number as itself, 0 where it is negative.
-fn unmoved(n: u32) -> u32
-    ensures { λ r. ⌜ r ≡ n - 100000000 ⌝ }
-{
-    if n < 100_000_000 { 0 } else { n - 100_000_000 }
-}
-
-// The answer c, where an argument that begins at a place is within its limit.
-fn within(inside: bool, place: usize, c: Command) -> Command
-    ensures { λ r. ⌜ r ≡ withinOr inside place c ⌝ }
-{
-    if inside {
-        c
-    } else {
-        Command::Refused { number: 6, place }
-    }
-}
-
-// The answer c of the command at a place, where the line breaks behind its last argument.
-fn ending(s: &[u8], at: usize, next: usize, c: Command) -> Command
-    ensures { λ r. ⌜ r ≡ endedAt (now (s .entry)) at next c ⌝ }
-{
-    if lex::breaks(s, next) {
-        c
-    } else {
-        Command::Refused {
-            number: 5,
-            place: at,
-        }
-    }
-}
-
 // The answer c of the command at a place, whose last argument is a string from place to next.
 fn named(s: &[u8], at: usize, place: usize, next: usize, c: Command) -> Command
     ensures { λ r. ⌜ r ≡ namedTo (now (s .entry)) at place next c ⌝ }
@@ -79,14 +40,14 @@ fn named(s: &[u8], at: usize, place: usize, next: usize, c: Command) -> Command
             place: at,
         };
     }
-    ending(s, at, next, c)
+    closing::ending(s, at, next, c)
 }
 
 // The answer c, where the string at a place has at most 64 bytes.
 fn short_name(place: usize, len: usize, c: Command) -> Command
     ensures { λ r. ⌜ r ≡ shortName place len c ⌝ }
 {
-    within(len <= 64, place, c)
+    closing::within(len <= 64, place, c)
 }
 
 // `T`. Here and below, the command's place is `at`, and its arguments stand from i on.
@@ -119,12 +80,12 @@ fn mounted(s: &[u8], at: usize, i: usize, a: u32, pa: usize) -> Command
     let next = lex::string_end(s, place);
     let len = next - place;
     let c = Command::Mount {
-        position: unmoved(a),
+        position: lex::unmoved(a),
         place,
         len,
         next,
     };
-    let judged = within(is_position(a), pa, short_name(place, len, c));
+    let judged = closing::within(is_position(a), pa, short_name(place, len, c));
     named(s, at, place, next, judged)
 }
 
@@ -152,7 +113,12 @@ fn plain(s: &[u8], at: usize, i: usize, letter: u32, lo: u32, hi: u32) -> Comman
         },
         One::Read { a, pa, next } => {
             let c = Command::Plain { letter, next };
-            ending(s, at, next, within(is_within(lo, hi, a), pa, c))
+            closing::ending(
+                s,
+                at,
+                next,
+                closing::within(lex::is_within(lo, hi, a), pa, c),
+            )
         }
     }
 }
@@ -176,12 +142,16 @@ fn resolution(s: &[u8], at: usize, i: usize) -> Command
             next,
         } => {
             let all = Command::Resolution {
-                quantum: unmoved(b),
+                quantum: lex::unmoved(b),
                 next,
             };
-            let third = within(is_positive(c), pc, all);
-            let judged = within(is_positive(a), pa, within(is_positive(b), pb, third));
-            ending(s, at, next, judged)
+            let third = closing::within(is_positive(c), pc, all);
+            let judged = closing::within(
+                is_positive(a),
+                pa,
+                closing::within(is_positive(b), pb, third),
+            );
+            closing::ending(s, at, next, judged)
         }
     }
 }
@@ -223,7 +193,7 @@ fn raw(s: &[u8], i: usize) -> Command
     let place = lex::spacer_end(s, i);
     let t = text_at(s, place);
     let c = Command::Raw { next: t.next };
-    within(t.len <= 4096, place, c)
+    closing::within(t.len <= 4096, place, c)
 }
 
 // The command `x` at a place.
@@ -243,15 +213,15 @@ pub fn control(s: &[u8], at: usize) -> Command
     match letter {
         b'T' => device(s, at, next),
         b'r' => resolution(s, at, next),
-        b'i' => ending(s, at, next, Command::Init { next }),
+        b'i' => closing::ending(s, at, next, Command::Init { next }),
         b'F' => file(s, at, next),
         b'f' => mount(s, at, next),
         b'H' => plain(s, at, next, 72, 1, 199_999_999),
         b'S' => plain(s, at, next, 83, 1, 199_999_999),
-        b'p' => ending(s, at, next, Command::Plain { letter: 112, next }),
-        b't' => ending(s, at, next, Command::Plain { letter: 116, next }),
+        b'p' => closing::ending(s, at, next, Command::Plain { letter: 112, next }),
+        b't' => closing::ending(s, at, next, Command::Plain { letter: 116, next }),
         b'u' => plain(s, at, next, 117, 100_000_000, 100_000_001),
-        b's' => ending(s, at, next, Command::Stop { next }),
+        b's' => closing::ending(s, at, next, Command::Stop { next }),
         b'X' => raw(s, next),
         _ => Command::Refused {
             number: 3,

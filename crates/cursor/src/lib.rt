@@ -6,7 +6,7 @@ ghost use Prim.Native.Nat.{_<_};
 ghost use lib.Dec.{leb};
 ghost use lib.ListN.{length};
 ghost use Rattle.command.specs.View.{commandAt};
-ghost use Rattle.cursor.specs.Blank.{blankAt};
+ghost use Rattle.lex.specs.At.{blankAt};
 
 // The stream and the current place.
 pub struct Reader<'a> {
@@ -19,20 +19,6 @@ fn over_at(s: &[u8], at: usize) -> bool
     ensures { λ r. ⌜ r ≡ leb (length (now (s .entry))) at ⌝ }
 {
     s.len() <= at
-}
-
-// The place behind a byte of whitespace or a comment, the place itself where neither stands.
-fn blank_at(s: &[u8], at: usize) -> usize
-    ensures { λ r. ⌜ r ≡ blankAt (now (s .entry)) at ⌝ }
-{
-    let b = lex::byte_at(s, at);
-    if lex::is_white(b) {
-        return at + 1;
-    }
-    if b == 35 {
-        return lex::line_end(s, at + 1);
-    }
-    at
 }
 
 impl<'a> Reader<'a> {
@@ -54,7 +40,7 @@ impl<'a> Reader<'a> {
     pub fn blank(self) -> usize
         ensures { λ n. ⌜ n ≡ blankAt (now (self .entry .stream)) (self .entry .at) ⌝ }
     {
-        blank_at(self.stream, self.at)
+        lex::blank_end(self.stream, self.at)
     }
 
     // The command that stands here.

@@ -11,7 +11,7 @@ use borrow.Author.Needs.{needs}
 use borrow.Author.Tests.{ne-eqb, leb-true, leb-false, le-leb, lt-leb}
 use lib.Dec.{leb}
 use lib.ListN.{length, drop, getD, length-map, drop-of-length-le}
-use Rattle.rules.specs.Bytes.{if_then_else_, is, isSpace, spacer, unspaced, origin, most, moved, within, near, Num, Nums, nums, integers, manyIntegers, perhapsInteger}
+use Rattle.rules.specs.Bytes.{if_then_else_, is, isSpace, spacer, unspaced, origin, most, moved, within, near, Num, Nums, nums, manyIntegers, perhapsInteger}
 use Rattle.rules.specs.Act.{Shape, line, arc, circle, solidCircle, ellipse, solidEllipse, polygon, solidPolygon, spline, thickness, grayFill, colourFill, draw, just}
 use Rattle.rules.specs.Letters.{Draft, draft, withAll, coloured}
 use Rattle.rules.specs.Drawing.{lineEnds, closed, shapeOf, exactly, dummied, paired, formOf, inPairs, dummyBehind, drawn, inShape, drawing, pairwise}
@@ -36,7 +36,8 @@ use Rattle.lex.specs.declared.Polygon.the-variants as G
 use Rattle.lex.proofs.Runs.{unspaced-at}
 use Rattle.lex.proofs.Chains.{ints}
 use Rattle.lex.proofs.Nums.{OneNums, TwoNums, FourNums, PerhapsNums, PolygonNums, one-nums, two-nums, four-nums, perhaps-nums, polygon-nums}
-use Rattle.drawings.specs.Parts.{componentsAt, withinOr, endedAt, downBy, movedAcross, twoBy, twoDrawn, arcBy, arcDrawn, dummyBy, dummyDrawn, roundBy, roundDrawn, oneArgument, thicknessSet, graySet, polygonBy, polygonDrawn, fillSet}
+use Rattle.closing.specs.Closed.{withinOr, endedAt}
+use Rattle.drawings.specs.Parts.{componentsAt, downBy, movedAcross, twoBy, twoDrawn, arcBy, arcDrawn, dummyBy, dummyDrawn, roundBy, roundDrawn, oneArgument, thicknessSet, graySet, polygonBy, polygonDrawn, fillSet}
 use Rattle.drawings.specs.declared.Components.{Components}
 use Rattle.drawings.specs.declared.Components.the-variants.{Fault, Over, Read}
 use Rattle.drawings.proofs.Placed.{outsideOr, limited, placedOf, drawing-placed}
@@ -237,19 +238,6 @@ module _ (s : List ℕ) (at i : ℕ) (p : i ≡ runEnd isSpace s (at + 1)) where
 
 -- ---- the drawings' parts
 
-pub within-yes : (t : Bool) (k : ℕ) (c : Command) → t ≡ true → c ≡ withinOr t k c
-within-yes t k c e = rw e
-
-pub within-no : (t : Bool) (k : ℕ) (c : Command) → t ≡ false → K.Refused 6 k ≡ withinOr t k c
-within-no t k c e = rw e
-
-module _ (s : List ℕ) (at n : ℕ) (c : Command) (t : Bool) (e : t ≡ breaksAt s n) where
-  pub ending-yes : t ≡ true → c ≡ endedAt s at n c
-  ending-yes f = rw (sym e ∙ f)
-
-  pub ending-no : t ≡ false → K.Refused 5 at ≡ endedAt s at n c
-  ending-no f = rw (sym e ∙ f)
-
 pub down-second : (letter n : ℕ) → letter ≡ 108 → n ≡ downBy letter n
 down-second letter n e = rw e
 
@@ -345,4 +333,4 @@ module _ (s : List ℕ) (at i : ℕ) where
     unfolding fillSet
     fill-read scheme x y z w l h r f = rw (f, ← g, h)
 
-pub ruleset drawings = (letter-none, by-letter, fill-letter, no-letter, within-yes, within-no, ending-yes, ending-no, down-second, down-none, two-short, two-read, arc-short, arc-read, dummy-short, dummy-absent, dummy-read, round-short, round-read, thickness-short, thickness-read, gray-short, gray-read, pairs-short, pairs-over, pairs-read, fill-fault, fill-over, fill-read, needs)
+pub ruleset drawings = (letter-none, by-letter, fill-letter, no-letter, down-second, down-none, two-short, two-read, arc-short, arc-read, dummy-short, dummy-absent, dummy-read, round-short, round-read, thickness-short, thickness-read, gray-short, gray-read, pairs-short, pairs-over, pairs-read, fill-fault, fill-over, fill-read, needs)

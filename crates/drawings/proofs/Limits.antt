@@ -1,37 +1,18 @@
 -- Limits judged on the numbers as they are handed on, cut at 200,000,000, and on the numbers themselves. Assumes nothing.
 use Prim.Native.Nat.{ℕ, zero, suc, _≤_, _<_}
 use native.Mathlib.Omega.{arith}
-use mathlib.Core.Bool.{Bool, true, false, _&&_}
+use mathlib.Core.Bool.{Bool, true, false}
 use mathlib.Core.List.{List, [], _∷_, map}
 use mathlib.Core.Option.{Option, none, some}
 use mathlib.Core.Path.{_≡_, refl, ap₂}
-use borrow.Author.Tests.{leb-true, leb-false, lt-leb}
-use lib.Dec.{leb}
 use lib.ListN.{length}
 use Rattle.rules.specs.Bytes.{if_then_else_, unspaced, Num, Int, noInt, int, integer, within, Nums, short, nums, withNum, afterInt, integers, isPresent, manyIntegers}
 use Rattle.rules.specs.Drawing.{isPaired, inPairs}
 use Rattle.rules.specs.Scan.{outside}
-use Rattle.laws.proofs.Cases.{on, if-both, and-right}
+use Rattle.laws.proofs.Cases.{if-both}
 use Rattle.lex.specs.At.{cut}
+use Rattle.closing.proofs.Places.{within-cut, within-uncut}
 use Rattle.drawings.proofs.Placed.{outsideOr}
-
--- ---- a limit below 200,000,000
-
-module _ (lo hi m : ℕ) (h : hi < 200000000) where
-  and-no : (b : Bool) → (b && false) ≡ false
-  and-no true = refl
-  and-no false = refl
-
-  pub within-cut : within lo hi (cut m) ≡ within lo hi m
-  within-cut =
-      on (leb m 200000000)
-      (λ e. let k : m ≤ 200000000 = leb-true m 200000000 e in let c : cut m ≡ m = omega arith in rw c)
-      (λ e.
-      let k : 200000000 < m = leb-false m 200000000 e in
-      rw (lt-leb (cut m) hi (omega arith), lt-leb m hi (omega arith), and-no (leb lo (cut m)), and-no (leb lo m)))
-
-  pub within-whole : within lo hi m ≡ true → cut m ≡ m
-  within-whole t = let k : m ≤ hi = leb-true m hi (and-right (leb lo m) (leb m hi) t) in omega arith
 
 -- ---- arguments judged one behind the other: w, or what is said of the first one outside
 
@@ -52,7 +33,7 @@ module _ {R : Type 0} (f : Option ℕ → R) (d : ℕ) (w : R) (lo hi : ℕ) (h 
   judge-cut (n ∷ ns) [] l g = absurd (omega arith)
   judge-cut (n ∷ ns) (k ∷ ks) l g =
       judge-one f d (map (within lo hi) ns) k ks (judgedBy (within lo hi) (λ i. f (some i)) w (map cut ns) ks) (within lo hi (cut n)) (within lo hi n) (within-cut lo hi n h)
-      (λ t. judge-cut ns ks (omega arith) (λ e. g (ap₂ _∷_ (within-whole lo hi n h t) e)))
+      (λ t. judge-cut ns ks (omega arith) (λ e. g (ap₂ _∷_ (within-uncut lo hi n h t) e)))
 
 -- ---- each number has its place
 

@@ -13,7 +13,7 @@ use Rattle.rules.specs.Scan.{isComponent, isGray, outside}
 use Rattle.command.specs.View.{part}
 use Rattle.command.specs.declared.Command.{Command}
 use Rattle.command.specs.declared.Command.the-variants as K
-use Rattle.lex.specs.At.{breaksAt, oneAt, twoAt, threeAt, fourAt, perhapsAt, polygonAt}
+use Rattle.lex.specs.At.{oneAt, twoAt, threeAt, fourAt, perhapsAt, polygonAt}
 use Rattle.lex.specs.declared.One.{One}
 use Rattle.lex.specs.declared.One.the-variants as A
 use Rattle.lex.specs.declared.Two.{Two}
@@ -26,6 +26,7 @@ use Rattle.lex.specs.declared.Perhaps.{Perhaps}
 use Rattle.lex.specs.declared.Perhaps.the-variants as P
 use Rattle.lex.specs.declared.Polygon.{Polygon}
 use Rattle.lex.specs.declared.Polygon.the-variants as G
+use Rattle.closing.specs.Closed.{withinOr, endedAt}
 use Rattle.drawings.specs.declared.Components.{Components}
 use Rattle.drawings.specs.declared.Components.the-variants.{Fault, Over, Read}
 
@@ -80,14 +81,6 @@ unfoldable pub fourComponents : ℕ → List ℕ → ℕ → Components
 fourComponents scheme s at = fourBy scheme (fourAt s at)
 
 -- ---- drawings of the command at a place, their arguments from i on
-
--- an argument that begins at a place is within its limit
-abbrev pub withinOr : Bool → ℕ → Command → Command
-withinOr t place c = if t then c else K.Refused 6 place
-
--- the line breaks behind the last argument
-abbrev pub endedAt : List ℕ → ℕ → ℕ → Command → Command
-endedAt s at next c = if breaksAt s next then c else K.Refused 5 at
 
 -- `Dl` moves down by its second number, `De` and `DE` do not
 abbrev pub downBy : ℕ → ℕ → ℕ

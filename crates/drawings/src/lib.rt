@@ -8,12 +8,11 @@ use lex::Polygon;
 use lex::Three;
 use lex::Two;
 ghost use mathlib.Core.Path.{_≡_};
-ghost use Prim.Native.Nat.{_-_, _<_};
+ghost use Prim.Native.Nat.{_<_};
 ghost use lib.ListN.{length};
-ghost use Rattle.rules.specs.Bytes.{near};
 ghost use Rattle.rules.specs.Scan.{isComponent, isGray};
 ghost use Rattle.command.specs.View.{letterAt};
-ghost use Rattle.drawings.specs.Parts.{componentThen, oneComponent, threeComponents, fourComponents, componentsAt, withinOr, endedAt, downBy, movedAcross, twoDrawn, arcDrawn, dummyDrawn, roundDrawn, thicknessSet, graySet, polygonDrawn, fillSet};
+ghost use Rattle.drawings.specs.Parts.{componentThen, oneComponent, threeComponents, fourComponents, componentsAt, downBy, movedAcross, twoDrawn, arcDrawn, dummyDrawn, roundDrawn, thicknessSet, graySet, polygonDrawn, fillSet};
 
 // What stands where a scheme's letter and its components are due: the number of a refusal; where the first component outside its
 // limit begins; or the letter and the components, those that are not used 0. `next` is the place behind the last component.
@@ -41,13 +40,6 @@ fn is_component(n: u32) -> bool
     (100_000_000 <= n) & (n <= 100_065_536)
 }
 
-// A component as itself.
-fn part(n: u32) -> u32
-    ensures { λ r. ⌜ r ≡ n - 100000000 ⌝ }
-{
-    if n < 100_000_000 { 0 } else { n - 100_000_000 }
-}
-
 // What the components behind the one at a place come to, with that one judged before them.
 fn component(n: u32, place: usize, next: usize, rest: Components) -> Components
     ensures { λ r. ⌜ r ≡ componentThen n place next rest ⌝ }
@@ -67,7 +59,7 @@ fn one_component(s: &[u8], at: usize, scheme: u32) -> Components
         One::Read { a, pa, next } => {
             let all = Components::Read {
                 scheme,
-                a: part(a),
+                a: lex::unmoved(a),
                 b: 0,
                 c: 0,
                 d: 0,
@@ -94,9 +86,9 @@ fn three_components(s: &[u8], at: usize, scheme: u32) -> Components
         } => {
             let all = Components::Read {
                 scheme,
-                a: part(a),
-                b: part(b),
-                c: part(c),
+                a: lex::unmoved(a),
+                b: lex::unmoved(b),
+                c: lex::unmoved(c),
                 d: 0,
                 next,
             };
@@ -124,10 +116,10 @@ fn four_components(s: &[u8], at: usize, scheme: u32) -> Components
         } => {
             let all = Components::Read {
                 scheme,
-                a: part(a),
-                b: part(b),
-                c: part(c),
-                d: part(d),
+                a: lex::unmoved(a),
+                b: lex::unmoved(b),
+                c: lex::unmoved(c),
+                d: lex::unmoved(d),
                 next,
             };
             let third = component(c, pc, next, component(d, pd, next, all));
@@ -189,41 +181,10 @@ pub fn colour(s: &[u8], at: usize) -> Command
     }
 }
 
-fn is_near(n: u32) -> bool
-    ensures { λ r. ⌜ r ≡ near n ⌝ }
-{
-    (1 <= n) & (n <= 199_999_999)
-}
-
 fn is_gray(n: u32) -> bool
     ensures { λ r. ⌜ r ≡ isGray n ⌝ }
 {
     (99_967_233 <= n) & (n <= 100_032_767)
-}
-
-// The answer c, where an argument that begins at a place is within its limit.
-fn within(inside: bool, place: usize, c: Command) -> Command
-    ensures { λ r. ⌜ r ≡ withinOr inside place c ⌝ }
-{
-    if inside {
-        c
-    } else {
-        Command::Refused { number: 6, place }
-    }
-}
-
-// The answer c of the drawing at a place, where the line breaks behind its last argument.
-fn ending(s: &[u8], at: usize, next: usize, c: Command) -> Command
-    ensures { λ r. ⌜ r ≡ endedAt (now (s .entry)) at next c ⌝ }
-{
-    if lex::breaks(s, next) {
-        c
-    } else {
-        Command::Refused {
-            number: 5,
-            place: at,
-        }
-    }
 }
 
 // `Dl` moves down by its second number, `De` and `DE` do not.
@@ -250,8 +211,12 @@ fn by_two(s: &[u8], at: usize, i: usize, letter: u32) -> Command
                 terms: 1,
                 next,
             };
-            let judged = within(is_near(a), pa, within(is_near(b), pb, c));
-            ending(s, at, next, judged)
+            let judged = closing::within(
+                lex::is_near(a),
+                pa,
+                closing::within(lex::is_near(b), pb, c),
+            );
+            closing::ending(s, at, next, judged)
         }
     }
 }
@@ -283,9 +248,17 @@ fn arc(s: &[u8], at: usize, i: usize) -> Command
                 terms: 2,
                 next,
             };
-            let third = within(is_near(c), pc, within(is_near(d), pd, all));
-            let judged = within(is_near(a), pa, within(is_near(b), pb, third));
-            ending(s, at, next, judged)
+            let third = closing::within(
+                lex::is_near(c),
+                pc,
+                closing::within(lex::is_near(d), pd, all),
+            );
+            let judged = closing::within(
+                lex::is_near(a),
+                pa,
+                closing::within(lex::is_near(b), pb, third),
+            );
+            closing::ending(s, at, next, judged)
         }
     }
 }
@@ -314,11 +287,11 @@ fn with_dummy(s: &[u8], at: usize, i: usize, letter: u32, a: u32, pa: usize) -> 
         },
         Perhaps::Absent { next } => {
             let c = across(letter, a, next);
-            ending(s, at, next, within(is_near(a), pa, c))
+            closing::ending(s, at, next, closing::within(lex::is_near(a), pa, c))
         }
         Perhaps::Read { a: d, pa: pd, next } => {
-            let c = within(is_near(d), pd, across(letter, a, next));
-            ending(s, at, next, within(is_near(a), pa, c))
+            let c = closing::within(lex::is_near(d), pd, across(letter, a, next));
+            closing::ending(s, at, next, closing::within(lex::is_near(a), pa, c))
         }
     }
 }
@@ -353,7 +326,7 @@ fn thickness(s: &[u8], at: usize, i: usize) -> Command
                 terms: 0,
                 next,
             };
-            ending(s, at, next, within(is_near(a), pa, c))
+            closing::ending(s, at, next, closing::within(lex::is_near(a), pa, c))
         }
     }
 }
@@ -369,7 +342,7 @@ fn gray(s: &[u8], at: usize, i: usize) -> Command
         },
         One::Read { a, pa, next } => {
             let c = Command::Gray { number: a, next };
-            ending(s, at, next, within(is_gray(a), pa, c))
+            closing::ending(s, at, next, closing::within(is_gray(a), pa, c))
         }
     }
 }
@@ -385,7 +358,7 @@ fn by_pairs(s: &[u8], at: usize, i: usize, letter: u32) -> Command
         },
         Polygon::Over { place, next } => {
             let c = Command::Refused { number: 6, place };
-            ending(s, at, next, c)
+            closing::ending(s, at, next, c)
         }
         Polygon::Read {
             dh,
@@ -400,7 +373,7 @@ fn by_pairs(s: &[u8], at: usize, i: usize, letter: u32) -> Command
                 terms,
                 next,
             };
-            ending(s, at, next, c)
+            closing::ending(s, at, next, c)
         }
     }
 }
@@ -413,7 +386,7 @@ fn fill(s: &[u8], at: usize, i: usize) -> Command
         Components::Fault { number } => Command::Refused { number, place: at },
         Components::Over { place, next } => {
             let c = Command::Refused { number: 6, place };
-            ending(s, at, next, c)
+            closing::ending(s, at, next, c)
         }
         Components::Read {
             scheme,
@@ -431,7 +404,7 @@ fn fill(s: &[u8], at: usize, i: usize) -> Command
                 d,
                 next,
             };
-            ending(s, at, next, all)
+            closing::ending(s, at, next, all)
         }
     }
 }

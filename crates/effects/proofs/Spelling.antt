@@ -7,7 +7,7 @@ use mathlib.Core.List.{List}
 use mathlib.Core.Path.{_≡_, refl, sym, ap, _∙_}
 use lib.Dec.{eqb, ltb}
 use lib.IntN.{ℤ}
-use lib.ListN.{length, getD, List·getD-eq-default}
+use lib.ListN.{getD}
 use borrow.Author.Needs.{needs}
 use borrow.Author.Tests.{lt-ltb, ltb-true, eq-eqb, ne-eqb}
 use mir.Syntax.{w64}
@@ -25,14 +25,12 @@ use Rattle.reader.specs.Environment.{withSpot, withGap, isSet, mayMove, refusin
 use Rattle.reader.specs.Words.{entryAt, allWide, farAt, wordNext, wordEnd, wordRecord, wordHere, wordTo, wordOn}
 use Rattle.reader.specs.Turns.{blockNow}
 use Rattle.effects.specs.Bounds.{Fits, Small, WordFits, Goes}
+use Rattle.lex.proofs.Runs.{past-end}
 use Rattle.effects.specs.Parts.{goneTo, lackOf, stepTo, nextWord, speltOf, wordSet}
 use Rattle.effects.proofs.Tests.{Way, way-on, way-off}
 use Rattle.effects.proofs.Motions.{lack-on, lack-off}
 
 -- ---- rows
-
-pub past-end : (ws : List ℕ) (i : ℕ) → length ws ≤ i → 0 ≡ getD ws i 0
-past-end ws i h = sym (List·getD-eq-default ws 0 h)
 
 pub entry-is : (s ws : List ℕ) (block at b r : ℕ) → b ≡ getD s at 0 → r ≡ getD ws (block * 256 + b) 0 → r ≡ entryAt ws block (getD s at 0)
 entry-is s ws block at b r e f = rw (f, e)

@@ -554,18 +554,12 @@ fn value_at(ws: &[u32], i: usize) -> u32
     if i < ws.len() { ws[i] } else { 0 }
 }
 
-fn byte_at(s: &[u8], i: usize) -> u8
-    ensures { λ r. ⌜ r ≡ getD (now (s .entry)) i 0 ⌝ }
-{
-    if i < s.len() { s[i] } else { 0 }
-}
-
 // What the block holds for the byte at a place: 0 for no width, else the width + 1.
 fn entry_at(s: &[u8], ws: &[u32], block: usize, at: usize) -> u32
     requires { ⌜ block ≤ 100001 ⌝ }
     ensures { λ r. ⌜ r ≡ entryAt (now (ws .entry)) block (getD (now (s .entry)) at 0) ⌝ }
 {
-    let b = byte_at(s, at);
+    let b = lex::byte_at(s, at);
     value_at(ws, block * 256 + (b as usize))
 }
 

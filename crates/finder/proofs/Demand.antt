@@ -1,7 +1,7 @@
 -- Demand 3, proved of whatever meets the contract of `find`. Assumes nothing.
-use Prim.Native.Nat.{ℕ, zero, suc, _+_, _-_, _<_, _≤_}
+use Prim.Native.Nat.{ℕ, suc, _+_, _-_, _<_, _≤_}
 use native.Mathlib.Omega.{arith}
-use mathlib.Core.Bool.{Bool, true, false, _||_}
+use mathlib.Core.Bool.{_||_}
 use mathlib.Core.List.{List, [], _∷_, _++_, map}
 use mathlib.Core.Logic.{_⊎_, inl, inr}
 use mathlib.Core.Path.{_≡_, refl, sym, ap, ap₂, subst, _∙_}
@@ -15,23 +15,21 @@ use Rattle.rules.specs.declared.Finding.the-variants as F
 use Rattle.rules.specs.Bytes.{if_then_else_}
 use Rattle.rules.specs.Scan.{commands}
 use Rattle.rules.specs.State.{start}
-use Rattle.rules.specs.Widths.{Widths, WidthList, unsound, sound, widthList}
+use Rattle.rules.specs.Widths.{WidthList, unsound, sound, widthList}
 use Rattle.rules.specs.Record.{GlyphRow, Answer, refuse, answer, follow, recordOf, over}
-use Rattle.rules.specs.Find.{Wanted, Query, illFormed, wellFormed, query, Key, hitsFrom}
-use Rattle.rules.specs.Answers.{streamMost, isOver, read, Found, notFound, found, hitsIn, findAsked, findWith, find, foundIn, findInto, findingOf, recordsFound, hitsOver, keyOf as keyOfRow}
-use Rattle.laws.proofs.Cases.{on, no as impossible}
+use Rattle.rules.specs.Find.{Wanted, wellFormed, query, Key, hitsFrom}
+use Rattle.rules.specs.Answers.{streamMost, isOver, read, Found, notFound, found, hitsIn, findWith, find, foundIn, findInto, findingOf, recordsFound, hitsOver, keyOf as keyOfRow}
+use Rattle.laws.proofs.Cases.{on}
 use Rattle.scanned.proofs.Names.{AllRows, RowsOf, read-stands}
-use Rattle.reading.specs.Outline.{outline}
 use Rattle.finding.specs.Occurs.{OccursAt, Elem, Rising}
-use Rattle.theorems.specs.Statements.{Accepted, rowsIn, cmdsOf, Exact, Told, refusedAt, listed, told}
+use Rattle.theorems.specs.Statements.{Accepted, rowsIn, Exact, Told, refusedAt, listed, told}
 use Rattle.theorems.proofs.Theorems.{exactness, byAnyCommand, likeness, roomy, queryText}
 use Rattle.theorems.proofs.Numbers.{numbers}
 use Rattle.reader.proofs.Passes.{length-map}
-use Rattle.query.specs.Parts.{partIn}
 use Rattle.matching.specs.Matching.{keyIn, keyOf}
 use Rattle.searching.specs.Searching.{blank}
-use Rattle.finder.specs.Demand.{Call, seenIn, ExactList, IsExact, LeavesAlone, Numbered, Short, NoRoom, LargeEnough, SameList, WhateverBefore, ByAnyCommandFound, LikenessFound, AlikeRows, LikenessOfRows}
-use Rattle.finder.proofs.Found.{all-seen}
+use Rattle.finder.specs.Demand.{Call, seenIn, ExactList, IsExact, LeavesAlone, Numbered, Short, NoRoom, LargeEnough, SameList, WhateverBefore, ByAnyCommandFound, LikenessFound, LikenessOfRows}
+use Rattle.finder.proofs.Found.{or-true, all-seen}
 
 -- ---- what is in front of what was there
 
@@ -182,10 +180,6 @@ pub numbered : Numbered
 numbered s list q rs hs number at rs′ hs′ c =
     let x : Refusal s list q rs hs number rs′ hs′ = refusal s list q rs hs number at rs′ hs′ c in
     numbers .finder (length rs) (length hs) s list q number (x .offset) (x .told)
-
-or-true : (a b : Bool) → b ≡ true → (a || b) ≡ true
-or-true true b h = refl
-or-true false b h = h
 
 short-in : (records hits : ℕ) (gs : List GlyphRow) (is : List ℕ) → (records < length gs) ⊎ (hits < length is) → foundIn records hits (found gs is) ≡ notFound 13 0
 short-in records hits gs is (inl h) = rw (lt-ltb records (length gs) h)

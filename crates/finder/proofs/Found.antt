@@ -21,7 +21,6 @@ use Rattle.rules.specs.Find.{Wanted, Query, illFormed, wellFormed, query, Key, 
 use Rattle.rules.specs.Answers.{streamMost, isOver, read, Found, notFound, found, hitsIn, findAsked, findWith, find, findInto, findingOf, recordsFound, hitsOver, keyOf as keyOfRow}
 use Rattle.laws.proofs.Cases.{on, no as impossible, if-both}
 use Rattle.scanned.proofs.Names.{RowIn, AllRows, RowsOf, names-stand}
-use Rattle.reading.specs.Outline.{outline}
 use Rattle.finding.specs.Occurs.{noWanted}
 use Rattle.theorems.proofs.Theorems.{keysIn, keys-by-outline}
 use Rattle.query.specs.Parts.{partIn}
@@ -41,7 +40,7 @@ use Rattle.searching.specs.declared.Progress.{Progress}
 use Rattle.searching.specs.Searching.{leftAt, Looked, searchFor, searchOf, Sound as SearchSound}
 use Rattle.searching.proofs.Exact.{search-exact}
 use Rattle.finder.specs.declared.Asked.{Asked}
-use Rattle.finder.specs.Finder.{Holds, askedAt, AsksWith, AsksOr, AsksFor, heldBack, BegunFrom, BegunOr, Begun, hitsCounted, tooMany, nextOf, searched, freshOf, progressOf, answerOf}
+use Rattle.finder.specs.Finder.{Holds, askedAt, AsksWith, AsksOr, AsksFor, heldBack, BegunFrom, BegunOr, Begun, hitsCounted, tooMany, nextOf, freshOf, progressOf, answerOf}
 use Rattle.finder.proofs.Asking.{part-in}
 use Rattle.finder.proofs.Within.{pass-held}
 
@@ -51,7 +50,7 @@ or-assoc : (a b c : Bool) → (a || (b || c)) ≡ ((a || b) || c)
 or-assoc true b c = refl
 or-assoc false b c = refl
 
-or-true : (a b : Bool) → b ≡ true → (a || b) ≡ true
+pub or-true : (a b : Bool) → b ≡ true → (a || b) ≡ true
 or-true true b e = refl
 or-true false b e = e
 
@@ -239,12 +238,6 @@ module _ (s list q : List ℕ) (rs : List Record) (es : List Entry) (hs : List �
     -- what it leaves
     pub left-scratch : Scratch (p .scratch)
     left-scratch = known .scratch
-
-    pub left-records : length (p .records) ≡ length rs
-    left-records = known .records-same
-
-    pub left-entries : length (p .entries) ≡ length es
-    left-entries = known .entries-same
 
     module _ (too : Bool) (counts : too ≡ tooMany rows s q (p .state) (length hs)) (c : State) (next : c ≡ nextOf (p .state) (length s) (length rs) too) (ws₂ : List ℕ) (u : Unmounted (p .scratch) ws₂) where
       abbrev told : Found

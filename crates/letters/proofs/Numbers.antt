@@ -27,7 +27,8 @@ use Rattle.lex.proofs.Nums.{OneNums, one-nums, TwoNums, two-nums}
 use Rattle.letters.specs.Parts.{argumentOf, argumentAt}
 use Rattle.letters.specs.declared.Argument.{Argument}
 use Rattle.letters.specs.declared.Argument.the-variants.{Good, Wrong}
-use Rattle.letters.proofs.Places.{short-back, nums-back, judged-at, within-cut, within-uncut, small-near}
+use Rattle.closing.proofs.Places.{short-back, nums-back, judged-at, within-cut, within-uncut}
+use Rattle.letters.proofs.Places.{small-near}
 
 -- ---- one integer
 

@@ -174,11 +174,5 @@ module _ (b : ℕ) (d : isDigit b ≡ true) where
             let z : at + (glyphPlace + 1) ≡ j + 1 = omega (arith, glyph-at) in
             sym (glyph-draft ∙ rw (k, l, byte-some (pair (100000000 + ((b - 48) * 10 + (c - 48)))) glyphPlace s j (sym v ∙ w), glyph-at, z))
 
-pub digit-least : (c : ℕ) (t : Bool) → t ≡ isDigit c → t ≡ true → 48 ≤ c
-digit-least c t y f = digit-in c (sym y ∙ f) .0
-
-pub first-least : (b : ℕ) → isDigit b ≡ true → 48 ≤ b
-first-least b d = digit-in b d .0
-
 pub behind-digit : (s : List ℕ) (p c : ℕ) (t : Bool) → c ≡ getD s p 0 → t ≡ isDigit c → t ≡ true → length s < 2 ^ 64 → Fits w64 (p + 1)
 behind-digit s p c t h y f l = omega (arith, digit-here s p c t h y f)

@@ -28,7 +28,8 @@ use Rattle.lex.proofs.Bounds.{PerhapsIn, perhaps-in}
 use Rattle.letters.specs.Parts.{dummyOf, dummyAt, wordWith, wordAt}
 use Rattle.letters.specs.declared.Dummy.{Dummy}
 use Rattle.letters.specs.declared.Dummy.the-variants.{Fine, Outside, Malformed}
-use Rattle.letters.proofs.Places.{short-back, nums-back, judged-at, within-cut, within-uncut, small-near}
+use Rattle.closing.proofs.Places.{short-back, nums-back, judged-at, within-cut, within-uncut}
+use Rattle.letters.proofs.Places.{small-near}
 use Rattle.letters.proofs.Numbers.{one-shape}
 use Rattle.letters.proofs.Strings.{named-none, named-some, string-white, take-is}
 

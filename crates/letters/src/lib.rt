@@ -7,9 +7,9 @@ use lex::Perhaps;
 use lex::Two;
 ghost use mathlib.Core.Path.{_≡_};
 ghost use mathlib.Core.Bool.{true};
-ghost use Prim.Native.Nat.{_-_, _≤_, _<_};
+ghost use Prim.Native.Nat.{_<_};
 ghost use lib.ListN.{length, drop};
-ghost use Rattle.rules.specs.Bytes.{isDigit, within, near};
+ghost use Rattle.rules.specs.Bytes.{isDigit};
 ghost use Rattle.rules.specs.Letters.{whiteNext};
 ghost use Rattle.command.specs.View.{letterAt};
 ghost use Rattle.letters.specs.Parts.{argumentAt, dummyAt, wordWith, wordAt};
@@ -25,19 +25,6 @@ enum Dummy {
     Fine { next: usize },
     Outside { place: usize },
     Malformed,
-}
-
-fn is_within(lo: u32, hi: u32, n: u32) -> bool
-    ensures { λ r. ⌜ r ≡ within lo hi n ⌝ }
-{
-    (lo <= n) & (n <= hi)
-}
-
-// Within the general limit.
-fn is_near(n: u32) -> bool
-    ensures { λ r. ⌜ r ≡ near n ⌝ }
-{
-    (1 <= n) & (n <= 199_999_999)
 }
 
 // Whether whitespace or the end is at a place.
@@ -62,7 +49,7 @@ fn argument_at(s: &[u8], at: usize, lo: u32, hi: u32) -> Argument
             place: at,
         },
         One::Read { a, pa, next } => {
-            if is_within(lo, hi, a) {
+            if lex::is_within(lo, hi, a) {
                 Argument::Good { number: a, next }
             } else {
                 Argument::Wrong {
@@ -227,8 +214,8 @@ pub fn line_break(s: &[u8], at: usize) -> Command
             place: at,
         },
         Two::Read { a, b, pa, pb, next } => {
-            if is_near(a) {
-                if is_near(b) {
+            if lex::is_near(a) {
+                if lex::is_near(b) {
                     Command::Break { next }
                 } else {
                     Command::Refused {
@@ -302,7 +289,7 @@ fn dummy_at(s: &[u8], at: usize) -> Dummy
         Perhaps::Absent { next } => Dummy::Fine { next },
         Perhaps::Read { a, pa, next } => {
             if white_next(s, next) {
-                if is_near(a) {
+                if lex::is_near(a) {
                     Dummy::Fine { next }
                 } else {
                     Dummy::Outside { place: pa }
@@ -324,7 +311,7 @@ fn judged_word(dummy: Dummy, at: usize, track: u32, pa: usize, place: usize, end
             place: at,
         },
         Dummy::Outside { place: pb } => {
-            if is_near(track) {
+            if lex::is_near(track) {
                 Command::Refused {
                     number: 6,
                     place: pb,
@@ -337,7 +324,7 @@ fn judged_word(dummy: Dummy, at: usize, track: u32, pa: usize, place: usize, end
             }
         }
         Dummy::Fine { next } => {
-            if is_near(track) {
+            if lex::is_near(track) {
                 Command::Word {
                     track,
                     place,
@@ -391,13 +378,6 @@ pub fn tracked(s: &[u8], at: usize) -> Command
     }
 }
 
-fn digit_of(b: u8) -> u32
-    requires { ⌜ 48 ≤ b ⌝ }
-    ensures { λ r. ⌜ r ≡ b - 48 ⌝ }
-{
-    (b - 48) as u32
-}
-
 // Two digits, of which b is the first, and a glyph of one byte
 pub fn two_digits(s: &[u8], at: usize, b: u8) -> Command
     requires { ⌜ (at < length (now s)) × (isDigit b ≡ true) ⌝ }
@@ -414,7 +394,7 @@ pub fn two_digits(s: &[u8], at: usize, b: u8) -> Command
             };
         }
         Command::Pair {
-            number: 100_000_000 + (digit_of(b) * 10 + digit_of(c)),
+            number: 100_000_000 + (lex::digit_of(b) * 10 + lex::digit_of(c)),
             place,
             next: place + 1,
         }

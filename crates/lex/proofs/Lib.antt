@@ -2,5 +2,6 @@ pub mod Runs
 pub mod Chains
 pub mod Bounds
 pub mod Pairs
-pub mod PolygonBounds
 pub mod Nums
+pub mod Texts
+pub mod Lines

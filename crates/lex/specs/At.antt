@@ -5,7 +5,7 @@ use mathlib.Core.Bool.{Bool, true, false}
 use mathlib.Core.List.{List, [], _∷_, map}
 use mathlib.Core.Option.{Option, none, some}
 use lib.ListN.{length, drop, getD}
-use Rattle.rules.specs.Bytes.{span, spacer, string, oneLine, Num, Int, noInt, int, integer, moved, Nums, short, nums, integers, manyIntegers, perhapsInteger}
+use Rattle.rules.specs.Bytes.{if_then_else_, is, isWhite, span, spacer, string, oneLine, Num, Int, noInt, int, integer, moved, Nums, short, nums, integers, manyIntegers, perhapsInteger}
 use Rattle.rules.specs.Drawing.{lineEnds, pairwise, inPairs}
 use Rattle.rules.specs.Scan.{upTo, outside}
 use Rattle.lex.specs.declared.Number.{Number}
@@ -27,6 +27,14 @@ use Rattle.lex.specs.declared.Polygon.the-variants as G
 
 unfoldable pub runEnd : (ℕ → Bool) → List ℕ → ℕ → ℕ
 runEnd p s at = at + span p (drop at s)
+
+-- the place behind what stands between commands at a place: a byte of whitespace, or a comment up to its newline; where neither
+-- stands it is the place itself
+unfoldable pub blankAt : List ℕ → ℕ → ℕ
+blankAt s at =
+    if isWhite (getD s at 0) then at + 1 else
+    if is "#" (getD s at 0) then at + 1 + oneLine (drop (at + 1) s) else
+    at
 
 -- the line breaks at a place, perhaps behind a spacer and a comment
 unfoldable pub breaksAt : List ℕ → ℕ → Bool

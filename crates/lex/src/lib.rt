@@ -3,8 +3,9 @@
 ghost use mathlib.Core.Path.{_≡_};
 ghost use Prim.Native.Nat.{_+_, _-_, _*_, _≤_, _<_, min};
 ghost use lib.ListN.{getD};
-ghost use Rattle.rules.specs.Bytes.{isSpace, isWhite, isNotWhite, isNotNewline, isDigit, near};
-ghost use Rattle.lex.specs.At.{runEnd, breaksAt, integerAt, oneAt, twoAt, threeAt, fourAt, perhapsAt, polygonAt};
+ghost use Rattle.rules.specs.Bytes.{same, isSpace, isWhite, isNotWhite, isNotNewline, isDigit, within, near};
+ghost use Rattle.rules.specs.Widths.{isString};
+ghost use Rattle.lex.specs.At.{runEnd, blankAt, breaksAt, integerAt, oneAt, twoAt, threeAt, fourAt, perhapsAt, polygonAt};
 ghost use Rattle.lex.specs.Parts.{digitsAt, signedAt, presentAt, pairOnto, addedTo, endedAt, Fine};
 
 pub enum Number {
@@ -143,6 +144,47 @@ pub fn line_end(s: &[u8], at: usize) -> usize
     i
 }
 
+// The place behind a byte of whitespace or a comment, the place itself where neither stands.
+pub fn blank_end(s: &[u8], at: usize) -> usize
+    ensures { λ r. ⌜ r ≡ blankAt (now (s .entry)) at ⌝ }
+{
+    let b = byte_at(s, at);
+    if is_white(b) {
+        return at + 1;
+    }
+    if b == 35 {
+        return line_end(s, at + 1);
+    }
+    at
+}
+
+// Whether two runs of bytes are equal.
+pub fn same_bytes(a: &[u8], b: &[u8]) -> bool
+    ensures { λ r. ⌜ r ≡ same (now (a .entry)) (now (b .entry)) ⌝ }
+{
+    if a.len() == b.len() {
+        let mut i = 0;
+        while i < a.len() {
+            if a[i] == b[i] {
+                i += 1;
+            } else {
+                return false;
+            }
+        }
+        true
+    } else {
+        false
+    }
+}
+
+// Whether a text is a name: 1 to 64 bytes, none of them whitespace.
+pub fn is_string(t: &[u8]) -> bool
+    ensures { λ r. ⌜ r ≡ isString (now (t .entry)) ⌝ }
+{
+    let n = string_end(t, 0);
+    (0 < t.len()) & ((t.len() <= 64) & (n == t.len()))
+}
+
 pub fn breaks(s: &[u8], at: usize) -> bool
     ensures { λ r. ⌜ r ≡ breaksAt (now (s .entry)) at ⌝ }
 {
@@ -154,12 +196,12 @@ pub fn breaks(s: &[u8], at: usize) -> bool
     }
 }
 
-struct DigitRun {
-    value: u32,
-    next: usize,
+pub struct DigitRun {
+    pub value: u32,
+    pub next: usize,
 }
 
-fn digit_of(b: u8) -> u32
+pub fn digit_of(b: u8) -> u32
     ensures { λ r. ⌜ r ≡ b - 48 ⌝ }
 {
     if b < 48 { 0 } else { (b - 48) as u32 }
@@ -181,7 +223,7 @@ fn with_digit(value: u32, b: u8) -> u32
 }
 
 // The number that the digits at a place say, cut at 100,000,000, and the place behind them.
-fn digits(s: &[u8], at: usize) -> DigitRun
+pub fn digits(s: &[u8], at: usize) -> DigitRun
     ensures { λ r. ⌜ r ≡ digitsAt (now (s .entry)) at ⌝ }
 {
     let mut value: u32 = 0;
@@ -224,6 +266,27 @@ pub fn integer(s: &[u8], at: usize) -> Number
     } else {
         signed(s, at, false)
     }
+}
+
+// Whether a number is within a limit.
+pub fn is_within(lo: u32, hi: u32, n: u32) -> bool
+    ensures { λ r. ⌜ r ≡ within lo hi n ⌝ }
+{
+    (lo <= n) & (n <= hi)
+}
+
+// The same for the general limit.
+pub fn is_near(n: u32) -> bool
+    ensures { λ r. ⌜ r ≡ near n ⌝ }
+{
+    (1 <= n) & (n <= 199_999_999)
+}
+
+// A number as itself, 0 where it is negative.
+pub fn unmoved(n: u32) -> u32
+    ensures { λ r. ⌜ r ≡ n - 100000000 ⌝ }
+{
+    if n < 100_000_000 { 0 } else { n - 100_000_000 }
 }
 
 // One integer, perhaps behind a spacer.
@@ -332,12 +395,6 @@ pub fn perhaps_at(s: &[u8], at: usize) -> Perhaps
 enum Sums {
     Within { dh: u64, dv: u64, terms: u64 },
     Outside { place: usize },
-}
-
-fn is_near(n: u32) -> bool
-    ensures { λ r. ⌜ r ≡ near n ⌝ }
-{
-    (1 <= n) & (n <= 199_999_999)
 }
 
 // One more pair, of numbers that begin at pa and pb, onto sums that are within their limits.

@@ -81,7 +81,7 @@ pub fn test(s: &[u8], q: &[u8], rows: &[u32], j: usize, page: u32, k: Key) -> Re
     let len = wide(rows[64 + j]);
     let name = query::part(s, k.place, k.len);
     let wanted = query::part(q, place, len);
-    if query::same_bytes(name, wanted) {
+    if lex::same_bytes(name, wanted) {
         gap_test(rows[128 + j], k.gap)
     } else {
         Reason::OtherName

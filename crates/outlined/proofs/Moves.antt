@@ -1,18 +1,17 @@
 -- One move: the answer of each return, in the form in which `search` applies it. Assumes nothing.
-use Prim.Native.Nat.{ℕ, zero, suc, _+_, _*_, _-_, _<_, _≤_}
+use Prim.Native.Nat.{ℕ, _+_, _-_, _<_, _≤_}
 use native.Mathlib.Omega.{arith}
-use mathlib.Core.Bool.{Bool, true, false}
 use mathlib.Core.List.{List}
-use mathlib.Core.Path.{_≡_, refl, sym, ap, subst, _∙_}
-use lib.Dec.{ltb, eqb}
-use lib.ListN.{length, drop, getD}
+use mathlib.Core.Path.{_≡_, ap, _∙_}
+use lib.ListN.{length}
 use borrow.Author.Needs.{needs}
-use borrow.Author.Tests.{lt-ltb, le-ltb, ne-eqb}
-use Rattle.rules.specs.Bytes.{if_then_else_, origin, is, isWhite, oneLine, isNotNewline}
+use borrow.Author.Tests.{lt-ltb, le-ltb}
+use Rattle.rules.specs.Bytes.{origin}
 use Rattle.command.specs.declared.Command.{Command}
 use Rattle.command.specs.declared.Command.the-variants as C
 use Rattle.command.specs.View.{commandAt}
-use Rattle.lex.specs.At.{runEnd}
+use Rattle.lex.specs.At.{blankAt}
+use Rattle.lex.proofs.Texts.{blank-by, blank-none}
 use Rattle.outlined.specs.declared.Outline.{Outline}
 use Rattle.outlined.specs.declared.Moved.{Moved}
 use Rattle.outlined.specs.Outlined.{passing, standing, naming, wordMove, commandMove, moveOf, Fair}
@@ -54,17 +53,16 @@ module _ (s : List ℕ) (o : Outline) (r : Moved) where
   unfolding moveOf
   step-word h f = rw (lt-ltb (o .at) (o .end) h, f)
 
-  module _ (l : o .end ≤ o .at) (b : ℕ) (w : Bool) (e : b ≡ getD s (o .at) 0) (p : w ≡ isWhite b) where
-    pub step-white : w ≡ true → r ≡ passing (standing (o .at + 1) (o .gap) (o .ordinal)) → r ≡ moveOf s o
+  module _ (l : o .end ≤ o .at) (next : ℕ) (p : next ≡ blankAt s (o .at)) where
+    pub step-blank : o .at < next → r ≡ passing (standing next (o .gap) (o .ordinal)) → r ≡ moveOf s o
     unfolding moveOf
-    step-white h f = rw (le-ltb (o .at) (o .end) l, ← e, ← p, h, f)
+    step-blank h f =
+        blank-by s (o .at) next p _ h (λ e k. rw (le-ltb (o .at) (o .end) l, e, f, k)) (λ e j k. rw (le-ltb (o .at) (o .end) l, e, j, f, k))
 
-    pub step-comment : (next : ℕ) → w ≡ false → b ≡ 35 → next ≡ runEnd isNotNewline s (o .at + 1) → r ≡ passing (standing next (o .gap) (o .ordinal)) → r ≡ moveOf s o
-    unfolding moveOf runEnd
-    step-comment next h k q f = rw (le-ltb (o .at) (o .end) l, ← e, ← p, h, k, f, q)
-
-    pub step-command : (c : Command) → w ≡ false → (b ≡ 35 → ⊥) → c ≡ commandAt s (o .at) → r ≡ commandMove (length s) o c → r ≡ moveOf s o
+    pub step-command : (c : Command) → next ≤ o .at → c ≡ commandAt s (o .at) → r ≡ commandMove (length s) o c → r ≡ moveOf s o
     unfolding moveOf
-    step-command c h k g f = rw (le-ltb (o .at) (o .end) l, ← e, ← p, h, ne-eqb b 35 k, f, g)
+    step-command c h g f =
+        let b = blank-none s (o .at) next p h in
+        rw (le-ltb (o .at) (o .end) l, b .0, b .1, f, g)
 
-pub ruleset step-laws = (ordinal-most, step-word, step-white, step-comment, step-command, needs)
+pub ruleset step-laws = (ordinal-most, step-word, step-blank, step-command, needs)

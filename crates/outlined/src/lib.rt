@@ -11,7 +11,7 @@ ghost use mathlib.Core.Bool.{true};
 ghost use Rattle.rules.specs.Find.{passes, glyphTest, goesOn, occurs, hitsFrom};
 ghost use Rattle.command.specs.declared.Command.the-variants as C;
 ghost use Rattle.matching.specs.Matching.{keyIn, wantedIn};
-ghost use Rattle.outlined.specs.Outlined.{noKey, passing, standing, naming, wordMove, commandMove, moveOf, keysAt, Fair, NextOf, wantedFrom, movesLeft, turnsLeft, seenFrom, Seen, isFit, standsAt, one};
+ghost use Rattle.outlined.specs.Outlined.{passing, standing, naming, wordMove, commandMove, moveOf, keysAt, Fair, NextOf, wantedFrom, movesLeft, turnsLeft, seenFrom, Seen, isFit, standsAt, one};
 
 // Where the outline is read: the next place; in a word, its end and the place behind it, else 0; the gap mark of the next record;
 // the page's ordinal.
@@ -188,12 +188,8 @@ fn step(s: &[u8], o: Outline) -> Moved
         return word_move(o);
     }
     let at = o.at;
-    let b = s[at];
-    if lex::is_white(b) {
-        return passed(o, at + 1);
-    }
-    if b == 35 {
-        let next = lex::line_end(s, at + 1);
+    let next = lex::blank_end(s, at);
+    if at < next {
         return passed(o, next);
     }
     let c = scan::scan(s, at);

@@ -25,10 +25,10 @@ use Rattle.printed.proofs.Decimals.{within-near, numOf, moved-numOf, si
 -- ---- printed numbers
 
 -- all of them are within the limit of all numbers
-abbrev AllNear : List ℕ → Type 0
+abbrev pub AllNear : List ℕ → Type 0
 AllNear ns = allTrue (map near ns) ≡ true
 
-within-all : (lo hi : ℕ) → origin - most ≤ lo → hi ≤ origin + most → (ns : List ℕ) → allTrue (map (within lo hi) ns) ≡ true → AllNear ns
+pub within-all : (lo hi : ℕ) → origin - most ≤ lo → hi ≤ origin + most → (ns : List ℕ) → allTrue (map (within lo hi) ns) ≡ true → AllNear ns
 within-all lo hi l m [] h = refl
 within-all lo hi l m (n ∷ ns) h =
     rw (
@@ -229,7 +229,7 @@ judge-closed : (a : Act) (ks : List ℕ) (m l j : ℕ) (r : List ℕ) (d : Draft
 unfolding lineEnds
 judge-closed a ks m l j r d h e q = judge a ks m l j (10 ∷ r) (closed d) h (rw e) q
 
-upTo-near : (k : ℕ) (ns : List ℕ) → allTrue (upTo k ns) ≡ true → AllNear ns
+pub upTo-near : (k : ℕ) (ns : List ℕ) → allTrue (upTo k ns) ≡ true → AllNear ns
 upTo-near k [] h = refl
 upTo-near k (n ∷ ns) h =
     rw (

@@ -1,19 +1,18 @@
 -- One line of the query further: what is still to come, put behind the glyphs read so far, stays the whole. Assumes nothing.
 use Prim.Native.Nat.{ℕ, zero, suc, _+_, _-_, _≤_, _<_}
 use native.Mathlib.Omega.{arith}
-use native.Mathlib.Nat.{sub-zero}
 use mathlib.Core.Bool.{Bool, true, false, _&&_}
 use mathlib.Core.List.{List, [], _∷_, _++_, append-nil}
 use mathlib.Core.Option.{Option, none, some}
 use mathlib.Core.Path.{_≡_, refl, sym, _∙_}
 use lib.Dec.{ltb, eqb}
 use lib.ListN.{length, take, drop, getD, set, length-append, length-take, length-drop, length-set, List·getD-append}
-use lib.Seq.{getD-at, getD-set-same, getD-set-other, drop-drop, take-nil, drop-nil}
+use lib.Seq.{getD-at, getD-set-same, getD-set-other, drop-drop}
 use borrow.Author.Needs.{needs}
 use borrow.Author.Tests.{lt-ltb, le-ltb, ltb-true, ltb-false, ne-eqb}
 use mir.Syntax.{w64}
 use mir.Val.{Fits}
-use Rattle.rules.specs.Bytes.{if_then_else_, bytes, same, oneLine}
+use Rattle.rules.specs.Bytes.{if_then_else_, bytes, same, isNotNewline}
 use Rattle.rules.specs.Widths.{linesFrom, behind}
 use Rattle.rules.specs.Find.{Expected, firstGlyph, gapGlyph, either, Wanted, Query, illFormed, wellFormed, withWanted, gapOf, mayPart, mayAsk, queryEnds, queryLine, queryLines, query}
 use Rattle.finding.specs.Occurs.{noWanted, wantedAt}
@@ -27,18 +26,8 @@ use Rattle.query.specs.declared.State.{State}
 use Rattle.query.specs.declared.Flow.{Flow}
 use Rattle.query.specs.declared.Flow.the-variants.{On, Stop}
 use Rattle.laws.proofs.Cases.{on, and-left}
-use Rattle.query.proofs.Lines.{line-at, lines-none, behind-some}
-
--- a front cut short at its start
-drop-take : (m n : ℕ) (l : List ℕ) → drop m (take n l) ≡ take (n - m) (drop m l)
-drop-take zero n l = rw sub-zero
-drop-take (suc m) n [] = simp (take-nil, drop-nil)
-drop-take (suc m) zero (a ∷ l) =
-    let z : 0 - suc m ≡ 0 = omega arith in
-    rw z
-drop-take (suc m) (suc n) (a ∷ l) =
-    let z : suc n - suc m ≡ n - m = omega arith in
-    rw z (drop-take m n l)
+use Rattle.lex.specs.At.{runEnd}
+use Rattle.lex.proofs.Lines.{line-at, line-from, lines-none, behind-some, drop-take}
 
 -- ---- glyphs before what the lines behind them say
 before-ill : (ws : List Wanted) (at : ℕ) → before ws (illFormed at) ≡ illFormed at
@@ -148,7 +137,7 @@ module _ (n due gap at : ℕ) (t : List ℕ) (go : ℕ → Expected → Query) w
   wrong-by (some name) k = rw (glyph-false (mayAsk n name) k)
 
 -- ---- the line at the state's place
-module _ (q : List ℕ) (st : State) (p l g : List ℕ) (G : Going q st p l g) (e : ℕ) (h : st .at < length q) (f : e ≡ st .at + oneLine (drop (st .at) q)) where
+module _ (q : List ℕ) (st : State) (p l g : List ℕ) (G : Going q st p l g) (e : ℕ) (h : st .at < length q) (f : e ≡ runEnd isNotNewline q (st .at)) where
   abbrev text : List ℕ
   text = take (e - st .at) (drop (st .at) q)
 
@@ -161,6 +150,9 @@ module _ (q : List ℕ) (st : State) (p l g : List ℕ) (G : Going q st p l g) (
   whole : query q ≡ before (G .glyphs) (if ltb e (length q) then says else illFormed (st .at))
   unfolding queryLines
   whole = G .rest ∙ rw (line-at q (st .at) e h f)
+
+  pub goes-past : st .at < e + 1
+  goes-past = omega (arith, line-from q (st .at) e f)
 
   pub stop-unended : length q ≤ e → query q ≡ illFormed (st .at)
   stop-unended i = whole ∙ rw (le-ltb e (length q) i, before-ill (G .glyphs) (st .at))
@@ -288,4 +280,4 @@ module _ (q : List ℕ) (st : State) (p l g : List ℕ) (G : Going q st p l g) w
     pub over-rows : LinesOf q p l g (query q)
     over-rows = over .1
 
-pub ruleset turning = (stop-unended, stop-wrong, on-gap, on-glyph, glyph-long, glyph-room, glyph-fits, going-start, going-on, going-less, stop-answer, stop-rows, over-answer, over-rows, needs)
+pub ruleset turning = (line-from, goes-past, stop-unended, stop-wrong, on-gap, on-glyph, glyph-long, glyph-room, glyph-fits, going-start, going-on, going-less, stop-answer, stop-rows, over-answer, over-rows, needs)

@@ -1,9 +1,7 @@
 // The query, judged, and its glyph lines by number (document 01, "Finding").
 ghost use mathlib.Core.Path.{_≡_};
 ghost use Prim.Native.Nat.{_+_, _-_, _≤_, _<_};
-ghost use lib.ListN.{length, drop, set};
-ghost use Rattle.rules.specs.Bytes.{same, isNotWhite, isNotNewline, span, oneLine};
-ghost use Rattle.rules.specs.Widths.{isString};
+ghost use lib.ListN.{length, set};
 ghost use Rattle.rules.specs.Find.{query};
 ghost use Rattle.query.specs.Asked.{queryOf, LinesOf};
 ghost use Rattle.query.specs.Parts.{partIn};
@@ -51,71 +49,12 @@ pub fn part<'a>(s: &'a [u8], place: usize, len: usize) -> &'a [u8]
     &s[place..end]
 }
 
-// Two runs of bytes are equal.
-pub fn same_bytes(a: &[u8], b: &[u8]) -> bool
-    ensures { λ r. ⌜ r ≡ same (now (a .entry)) (now (b .entry)) ⌝ }
-{
-    if a.len() != b.len() {
-        return false;
-    }
-    let mut i = 0;
-    while i < a.len() {
-        if a[i] != b[i] {
-            return false;
-        }
-        i += 1;
-    }
-    true
-}
-
-fn not_newline(b: u8) -> bool
-    ensures { λ r. ⌜ r ≡ isNotNewline b ⌝ }
-{
-    !(b == 10)
-}
-
-fn not_white(b: u8) -> bool
-    ensures { λ r. ⌜ r ≡ isNotWhite b ⌝ }
-{
-    !((b == 32) | (b == 9) | (b == 10))
-}
-
-// Where the line that starts at a place ends: at its newline, or at the end of q.
-fn line_end(q: &[u8], at: usize) -> usize
-    ensures { λ r. ⌜ r ≡ at + oneLine (drop at (now (q .entry))) ⌝ }
-{
-    let mut i = at;
-    while i < q.len() && not_newline(q[i]) {
-        i += 1;
-    }
-    i
-}
-
-// How many bytes at the front are no whitespace.
-fn word_len(t: &[u8]) -> usize
-    ensures { λ r. ⌜ r ≡ span isNotWhite (now (t .entry)) ⌝ }
-{
-    let mut i = 0;
-    while i < t.len() && not_white(t[i]) {
-        i += 1;
-    }
-    i
-}
-
-// 1 to 64 bytes, none of them whitespace.
-fn is_string(t: &[u8]) -> bool
-    ensures { λ r. ⌜ r ≡ isString (now (t .entry)) ⌝ }
-{
-    let n = word_len(t);
-    (0 < t.len()) & ((t.len() <= 64) & (n == t.len()))
-}
-
 // A line with the key `glyph=` and this name.
 fn glyph_kind(name: &[u8], glyphs: usize) -> Kind
     ensures { λ r. ⌜ r ≡ glyphKind glyphs (now (name .entry)) ⌝ }
 {
     if glyphs < 64 {
-        if is_string(name) {
+        if lex::is_string(name) {
             return Kind::Glyph;
         }
     }
@@ -127,7 +66,7 @@ fn gap_kind(t: &[u8], due: u32) -> Kind
     ensures { λ r. ⌜ r ≡ gapKind due (now (t .entry)) ⌝ }
 {
     if due == 1 {
-        if same_bytes(t, b"gap=any") {
+        if lex::same_bytes(t, b"gap=any") {
             return Kind::Gap;
         }
     }
@@ -141,7 +80,7 @@ fn kind_of(t: &[u8], due: u32, glyphs: usize) -> Kind
     if t.len() < 6 {
         return gap_kind(t, due);
     }
-    if same_bytes(&t[0..6], b"glyph=") {
+    if lex::same_bytes(b"glyph=", &t[0..6]) {
         glyph_kind(&t[6..], glyphs)
     } else {
         gap_kind(t, due)
@@ -175,7 +114,7 @@ fn turn(q: &[u8], places: &mut [u32], lens: &mut [u32], gaps: &mut [u32], st: St
 {
     let at = st.at;
     let n = st.glyphs;
-    let end = line_end(q, at);
+    let end = lex::line_end(q, at);
     if q.len() <= end {
         return Flow::Stop;
     }

@@ -1,22 +1,21 @@
 -- The answer of each return of a turn, in the form in which `search` applies it. Assumes nothing.
-use Prim.Native.Nat.{ℕ, _+_}
-use mathlib.Core.Bool.{Bool, true, false}
+use Prim.Native.Nat.{ℕ, _≤_, _<_}
 use mathlib.Core.List.{List}
 use mathlib.Core.Path.{_≡_, sym, ap, _∙_}
 use lib.Dec.{eqb}
-use lib.ListN.{length, getD}
+use lib.ListN.{length}
 use borrow.Author.Needs.{needs}
 use borrow.Author.Tests.{ne-eqb, eqb-true}
-use Rattle.rules.specs.Bytes.{isWhite, isNotNewline}
 use Rattle.laws.proofs.Cases.{on}
-use Rattle.lex.specs.At.{runEnd}
+use Rattle.lex.specs.At.{blankAt}
+use Rattle.lex.proofs.Texts.{blank-by, blank-none, blank-within}
 use Rattle.command.specs.declared.Command.{Command}
 use Rattle.command.specs.View.{commandAt}
 use Rattle.reader.specs.declared.Did.{Did}
 use Rattle.reader.specs.declared.State.{State}
 use Rattle.reader.specs.declared.Turned.{Turned}
 use Rattle.reader.specs.Turns.{didAt, nextOf, scratchAfter, doneOf, skipped, turnOn, turnOf, scratchOf}
-use Rattle.turns.proofs.Turning.{command-within, here-some, command-mounts, comment-ends}
+use Rattle.turns.proofs.Turning.{command-within, here-some, command-mounts}
 use Rattle.spelling.specs.declared.Mark.{Mark}
 use Rattle.spelling.specs.Sheet.{putAll}
 use Rattle.spelling.specs.Spelled.{mannerOf, penH, penV, spelledAt}
@@ -69,25 +68,22 @@ skipped-state n next st x e = rw e
 
 -- ---- a turn
 
-module _ (find : List ℕ → ℕ) (s ws : List ℕ) (st : State) (o : List ℕ) (m : Mark) (b : ℕ) (w : Bool) (e : b ≡ getD s (st .at) 0) (p : w ≡ isWhite b) (x : State) (n : Mark) where
-  pub white-step : w ≡ true → x ≡ skipped (length s) st (st .at + 1) .state → n ≡ m
+module _ (find : List ℕ → ℕ) (s ws : List ℕ) (st : State) (o : List ℕ) (m : Mark) (next : ℕ) (p : next ≡ blankAt s (st .at)) (x : State) (n : Mark) where
+  pub blank-step : st .at < next → x ≡ skipped (length s) st next .state → n ≡ m
       → record { state = x; mark = n; scratch = ws; bytes = o } ≡ stepOf find s (record { state = st; mark = m; scratch = ws; bytes = o })
   unfolding turnOf scratchOf bytesOf markOf
-  white-step h q r = rw (← e, ← p, h, q, r)
+  blank-step h q r = blank-by s (st .at) next p _ h (λ e k. rw (e, q, k, r)) (λ e j k. rw (e, j, q, k, r))
 
-  pub comment-step : (next : ℕ) → w ≡ false → b ≡ 35 → next ≡ runEnd isNotNewline s (st .at + 1) → x ≡ skipped (length s) st next .state → n ≡ m
-      → record { state = x; mark = n; scratch = ws; bytes = o } ≡ stepOf find s (record { state = st; mark = m; scratch = ws; bytes = o })
-  unfolding turnOf scratchOf bytesOf markOf runEnd
-  comment-step next h k l q r = rw (← e, ← p, h, k, q, l, r)
-
-  pub command-step : (t q : List ℕ) → w ≡ false → (b ≡ 35 → ⊥) → x ≡ turnOn s ws st (commandAt s (st .at)) .state → n ≡ markOn s ws st x (commandAt s (st .at)) o m
+  pub command-step : (t q : List ℕ) → next ≤ st .at → x ≡ turnOn s ws st (commandAt s (st .at)) .state → n ≡ markOn s ws st x (commandAt s (st .at)) o m
       → q ≡ sheetOn s ws st x (commandAt s (st .at)) o m .bytes → t ≡ scratchAfter find s ws (st .env) (commandAt s (st .at))
       → record { state = x; mark = n; scratch = t; bytes = q } ≡ stepOf find s (record { state = st; mark = m; scratch = ws; bytes = o })
   unfolding turnOf scratchOf bytesOf markOf
-  command-step t q h k f i j l = rw (← e, ← p, h, ne-eqb b 35 k, l, j, i, f)
+  command-step t q h f i j l =
+      let b = blank-none s (st .at) next p h in
+      rw (b .0, b .1, l, j, i, f)
 
 pub ruleset writing = (none-refused, written-mark, written-bytes, refused-mark, refused-bytes, all-kept, needs)
 
 pub ruleset commanding = (command-within, here-some, turned-state, command-state, command-mark, command-bytes, command-mounts, skipped-state, needs)
 
-pub ruleset stepping = (here-some, comment-ends, white-step, comment-step, command-step, needs)
+pub ruleset stepping = (here-some, blank-within, blank-step, command-step, needs)

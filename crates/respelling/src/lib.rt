@@ -72,12 +72,8 @@ fn turn(out: &mut [u8], ws: &mut [u32], s: &[u8], list: &[u8], st: State, m: Mar
     ensures { λ r. ⌜ record { state = r .state; mark = r .mark; scratch = now (ws .exit); bytes = now (out .exit) } ≡ stepOf (findIn (now (list .entry)) (st .fonts) (now (ws .entry))) (now (s .entry)) (record { state = st; mark = m; scratch = now (ws .entry); bytes = now (out .entry) }) ⌝ }
 {
     let at = st.at;
-    let b = s[at];
-    if lex::is_white(b) {
-        return skipped(s.len(), st, at + 1, m);
-    }
-    if b == 35 {
-        let next = lex::line_end(s, at + 1);
+    let next = lex::blank_end(s, at);
+    if at < next {
         return skipped(s.len(), st, next, m);
     }
     command_turn(out, ws, s, list, st, m)

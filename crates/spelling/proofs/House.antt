@@ -7,11 +7,11 @@ use mathlib.Core.Option.{Option, none, some}
 use mathlib.Core.Path.{_≡_, refl, sym, ap, ap₂, _∙_}
 use lib.Dec.{leb, ltb, eqb}
 use lib.ListN.{length, take, drop, getD}
-use borrow.Author.Tests.{lt-ltb, ltb-true, leb-true, le-leb}
+use borrow.Author.Tests.{ltb-true, leb-true, le-leb}
 use Rattle.rules.specs.Bytes.{if_then_else_, origin, most, near}
 use Rattle.rules.specs.Act.{Axis, across, down, line, arc, circle, solidCircle, ellipse, solidEllipse, polygon, solidPolygon, spline, thickness, grayFill, colourFill, Act, glyph, index, to, by, page, font, size, colour, break, space, draw, device, resolution, init, file, mount, plain, raw, stop, Cmd, just, word, pair}
 use Rattle.rules.specs.Widths.{Widths, Font, widthOf, advance}
-use Rattle.rules.specs.State.{Spot, Env, Glyph, Item, Step, refused, went, before, andThen, setGap, setSpot, glyphOf, withFont, recorded, act, run, Acts, noActs, these, ready, byteActs, wordActs, wordIn, acts, perform, mountedAt}
+use Rattle.rules.specs.State.{Spot, Env, Glyph, Item, Step, refused, went, before, andThen, setGap, glyphOf, withFont, recorded, act, run, Acts, noActs, these, ready, byteActs, wordActs, wordIn, acts, perform, mountedAt}
 use Rattle.rules.specs.State as S
 use Rattle.rules.specs.House as R
 use Rattle.rules.specs.House.{anchored, floating, turning, moving, manner, moves, kept, pen, onward, house, played, signedDecimal, spellAct, spellAll}
@@ -20,13 +20,14 @@ use Rattle.laws.proofs.Cases.{on, no, and-left, and-right}
 use Rattle.laws.proofs.Good.{GoodCmd}
 use Rattle.scanned.proofs.Bounds.{textOf}
 use Rattle.reading.proofs.Spells.{Near, perform-near}
+use Rattle.printed.proofs.Trip.{spellAll-append}
 use Rattle.reader.specs.declared.Environment.{Environment}
 use Rattle.reader.specs.declared.Word.{Word}
 use Rattle.reader.specs.declared.Did.{Did}
 use Rattle.reader.specs.Environment.{fontOf, envOf, onPage, mayMove}
 use Rattle.reader.specs.Words.{entryAt, farAt, wordNext, wordHere}
 use Rattle.reader.specs.Turns.{blockNow}
-use Rattle.reader.proofs.Words.{entryFor, here, Carries, Reads}
+use Rattle.reader.proofs.Words.{entryFor, here, actsIn, hasActs, Carries, carries-next, glyph-on, by-on, far-is, Reads}
 use Rattle.reader.proofs.Commands.{mountsAfterCmd}
 use Rattle.reader.proofs.Live.{Live, mounts-of}
 use Rattle.spelling.specs.declared.Manner.{Manner}
@@ -73,11 +74,6 @@ pub house-append : (xs ys : List Act) (e : Env) (p : Spot) (d : Env) (gs : List 
     → house e p (xs ++ ys) ≡ house e p xs ++ house d (penAfter e p xs) ys
 house-append xs ys e p d gs is q = house-ends xs ys e p d (rw q refl)
 
-pub spellAll-append : (xs ys : List Act) → spellAll (xs ++ ys) ≡ spellAll xs ++ spellAll ys
-unfolding spellAll
-spellAll-append [] ys = refl
-spellAll-append (a ∷ xs) ys = rw (spellAll-append xs ys) (sym (append-assoc (spellAct a) (10 ∷ spellAll xs) (spellAll ys)))
-
 -- one command, then the rest
 pub played-next : (w : Widths) (e : Env) (p : Spot) (c : Cmd) (cs : List Cmd) (xs : List Act) (d : Env) (gs : List Glyph) (is : List Item) → acts w e c ≡ these xs → run e xs ≡ went d gs is
     → house e p (played w e (c ∷ cs)) ≡ house e p xs ++ house d (penAfter e p xs) (played w d cs)
@@ -85,14 +81,6 @@ unfolding played
 played-next w e p c cs xs d gs is h q = rw (h, q) (house-append xs (played w d cs) e p d gs is q)
 
 -- ---- acts of a command that went
-
-abbrev pub actsIn : Acts → List Act
-actsIn (noActs n) = []
-actsIn (these xs) = xs
-
-abbrev hasActs : Acts → Bool
-hasActs (noActs n) = false
-hasActs (these xs) = true
 
 abbrev isGone : Step → Bool
 isGone (refused n) = false
@@ -256,32 +244,6 @@ moved-near x n h =
     let g : x + n < 3 * origin = ltb-true (x + n) (3 * origin) (and-right (ltb origin (x + n)) (ltb (x + n) (3 * origin)) h) in
     rw (le-leb (origin - most) (x + n - origin) (omega arith), le-leb (x + n - origin) (origin + most) (omega arith))
 
-carries-on : (e : Env) (f unit : ℕ) (d : Word) (s ws : List ℕ) → Carries e f unit d → mayMove (d .h) (farAt s ws d) ≡ true → Carries e f unit (wordNext s ws d)
-carries-on e f unit d s ws c m = record {
-  page = c .page;
-  font = c .font;
-  sized = c .sized;
-  ordinal = c .ordinal;
-  number = c .number;
-  position = c .position;
-  size = c .size;
-  quantum = c .quantum;
-  unitwidth = c .unitwidth;
-  placed = near-some (d .h + farAt s ws d - origin) (moved-near (d .h) (farAt s ws d) m);
-}
-
-glyph-goes : (e : Env) (f : ℕ) (n : List ℕ) → S.onPage e ≡ true → e .font ≡ some f → ltb 0 (e .size) ≡ true → act e (glyph n) ≡ went (setGap e 0) (glyphOf e f n 0 ∷ []) []
-unfolding act
-glyph-goes e f n g a z = rw g (go (e .font) a)
-  where
-    go : (o : Option ℕ) → o ≡ some f → withFont e (recorded e n 0) o ≡ went (setGap e 0) (glyphOf e f n 0 ∷ []) []
-    go o q = rw (q, z)
-
-by-goes : (e : Env) (d : Word) (n : ℕ) → S.onPage e ≡ true
-    → act (setGap (here e d) 0) (by across n) ≡ (if mayMove (d .h) n then went (setGap (setSpot e (record { h = d .h + n - origin; v = d .v })) 0) [] [] else refused 10)
-unfolding act
-by-goes e d n g = rw g
-
 -- a glyph and a motion, then the rest
 two-on : (e d g : Env) (n : List ℕ) (k : ℕ) (ys : List Act) (p : Spot) (gs : List Glyph) → act e (glyph n) ≡ went d gs [] → act d (by across k) ≡ went g [] []
     → (house e p (glyph n ∷ by across k ∷ ys) ≡ (moves p (e .spot) ++ glyph n ∷ []) ++ house g (d .spot) ys) × (penAfter e p (glyph n ∷ by across k ∷ ys) ≡ penAfter g (d .spot) ys)
@@ -291,10 +253,6 @@ two-on e d g n k ys p gs h q = (rw (h, q), rw (h, q))
 module _ (e : Env) (f unit : ℕ) (fs : List Font) (name s ws : List ℕ) (block track : ℕ) where
   abbrev far : ℕ → ℕ
   far x = advance x (e .size) unit (e .quantum) + track
-
-  far-same : (d : Word) (b k : ℕ) → Carries e f unit d → d .block ≡ block → d .track ≡ track → getD s (d .at) 0 ≡ b → entryAt ws block b ≡ k + 1 → farAt s ws d ≡ far k
-  far-same d b k c p q r w =
-      rw (r, p, w, q, c .size, c .unitwidth, c .quantum) (ap (λ (x : ℕ). advance x (e .size) unit (e .quantum) + track) (omega arith))
 
   -- n bytes from d on, written behind the place p
   abbrev Worded : ℕ → Word → Spot → List Act → Type 0
@@ -308,9 +266,9 @@ module _ (e : Env) (f unit : ℕ) (fs : List Font) (name s ws : List ℕ) (block
   may-move d b k ys g c w h =
       let z : Ends g (andThen (act (setGap (here e d) 0) (by across (far k))) (λ x. run x ys)) =
       ends-before g (glyphOf (here e d) f (b ∷ []) 0 ∷ []) [] (andThen (act (setGap (here e d) 0) (by across (far k))) (λ x. run x ys))
-      (rw (glyph-goes (here e d) f (b ∷ []) (c .page) (c .font) (c .sized)) at h) in
+      (rw (glyph-on (here e d) f (b ∷ []) (c .page) (c .font) (c .sized)) at h) in
       let y : Ends g (andThen (if mayMove (d .h) (farAt s ws d) then went (here e (wordNext s ws d)) [] [] else refused 10) (λ x. run x ys)) =
-      rw (by-goes e d (far k) (c .page), ← w) at z in
+      rw (by-on e d (far k) (c .page), ← w) at z in
       on (mayMove (d .h) (farAt s ws d))
       (λ m. (m, ends-before g [] [] (run (here e (wordNext s ws d)) ys) (rw m at y)))
       (λ m. absurd (rw m at y))
@@ -330,11 +288,11 @@ module _ (e : Env) (f unit : ℕ) (fs : List Font) (name s ws : List ℕ) (block
   unfolding wordLines wordPenH
   byte-spelled d b k n ys p c nh nv r w m more =
       let q : Spot = record { h = d .h; v = d .v } in
-      let moved : act (setGap (here e d) 0) (by across (far k)) ≡ went (here e (wordNext s ws d)) [] [] = by-goes e d (far k) (c .page) ∙ rw (← w, m) in
+      let moved : act (setGap (here e d) 0) (by across (far k)) ≡ went (here e (wordNext s ws d)) [] [] = by-on e d (far k) (c .page) ∙ rw (← w, m) in
       let two : (house (here e d) p (glyph (b ∷ []) ∷ by across (far k) ∷ ys) ≡ (moves p q ++ glyph (b ∷ []) ∷ []) ++ house (here e (wordNext s ws d)) q ys)
       × (penAfter (here e d) p (glyph (b ∷ []) ∷ by across (far k) ∷ ys) ≡ penAfter (here e (wordNext s ws d)) q ys) =
       two-on (here e d) (setGap (here e d) 0) (here e (wordNext s ws d)) (b ∷ []) (far k) ys p (glyphOf (here e d) f (b ∷ []) 0 ∷ [])
-      (glyph-goes (here e d) f (b ∷ []) (c .page) (c .font) (c .sized)) moved in (
+      (glyph-on (here e d) f (b ∷ []) (c .page) (c .font) (c .sized)) moved in (
         ap spellAll (two .0) ∙ spellAll-append (moves p q ++ glyph (b ∷ []) ∷ []) (house (here e (wordNext s ws d)) q ys)
             ∙ ap₂ (λ (x y : List ℕ). x ++ y) (anchored-spelled p q (glyph (b ∷ [])) nh nv) (more .0)
             ∙ append-assoc (movesTo (p .h) (p .v) (d .h) (d .v)) (spellAct (glyph (b ∷ [])) ++ 10 ∷ []) (wordLines n s ws (d .h) (d .v) (wordNext s ws d))
@@ -348,7 +306,7 @@ module _ (e : Env) (f unit : ℕ) (fs : List Font) (name s ws : List ℕ) (block
   word-spelled [] d p xs g q c nh nv i t r h = rw (← ap actsIn q) (refl, refl)
   word-spelled (b ∷ bs) d p xs g q c nh nv i t r h =
       go (widthOf name b fs) (r .1) (wordActs fs name far bs) q
-      (λ ys k m z. word-spelled bs (wordNext s ws d) (record { h = d .h; v = d .v }) ys g k (carries-on e f unit d s ws c m) (moved-near (d .h) (farAt s ws d) m) nv i t (r .2) z)
+      (λ ys k m z. word-spelled bs (wordNext s ws d) (record { h = d .h; v = d .v }) ys g k (carries-next e f unit d s ws c m) (moved-near (d .h) (farAt s ws d) m) nv i t (r .2) z)
     where
       go : (o : Option ℕ) → entryAt ws block b ≡ entryFor o → (x : Acts) → byteActs b far o x ≡ these xs
           → ((ys : List Act) → x ≡ these ys → mayMove (d .h) (farAt s ws d) ≡ true → Ends g (run (here e (wordNext s ws d)) ys) → Worded (length bs) (wordNext s ws d) (record { h = d .h; v = d .v }) ys)
@@ -356,7 +314,7 @@ module _ (e : Env) (f unit : ℕ) (fs : List Font) (name s ws : List ℕ) (block
       go none w x k more = no (ap hasActs k)
       go (some j) w (noActs m) k more = no (ap hasActs k)
       go (some j) w (these ys) k more =
-          let y : farAt s ws d ≡ far j = far-same d b j c i t (r .0) w in
+          let y : farAt s ws d ≡ far j = far-is e f unit fs name s ws block track d b j c i t (r .0) w in
           let z : (mayMove (d .h) (farAt s ws d) ≡ true) × Ends g (run (here e (wordNext s ws d)) ys) = may-move d b j ys g c y (rw (← ap actsIn k) at h) in
           rw (← ap actsIn k) (byte-spelled d b j (length bs) ys p c nh nv (r .0) y (z .0) (more ys refl (z .0) (z .1)))
 

@@ -14,7 +14,7 @@ use Rattle.rules.specs.Act.{across, down, Scheme, cmy, default, gray, cmyk, rgb
 use Rattle.rules.specs.Letters.{Draft, fault, draft, withOne, withAll, ignoring, oneByte, named, numberNamed, followedByWhite, withDummy, secondDigit, schemeOf, components, inScheme, coloured}
 use Rattle.rules.specs.Drawing.{lineEnds, closed, shapeOf, Form, exactly, dummied, paired, formOf, isPaired, inPairs, dummyBehind, drawn, inShape, drawing, pairwise, firstAcross}
 use Rattle.rules.specs.Controls.{alone, resolutionOf, plainCount, plainly, rawText, rawLength, rawly, control, controlWord}
-use Rattle.rules.specs.Scan.{letter, upTo, isName, isPosition, isPositive, isComponent, isGray, cmdLimits, isSmall, outside, judgedBy, judged, command, Scan, got, bad}
+use Rattle.rules.specs.Scan.{letter, isName, isPosition, isPositive, isComponent, isGray, cmdLimits, isSmall, outside, judgedBy, judged, command, Scan, got, bad}
 use Rattle.rules.specs.Record.{schemeLetter, shapeLetter}
 use Rattle.rules.specs.House.{Manner, anchored, floating, turning, moving, manner, decimal, signedDecimal, args, plusLines, spellAct}
 use Rattle.rules.specs.House as H
@@ -23,6 +23,7 @@ use Rattle.laws.proofs.Good.{allTrue, Good}
 use Rattle.scanned.proofs.Bounds.{At, at-first, at-by, at-unspaced, at-next, span-le, Stands, actText, GotIn, command-in}
 use Rattle.scanned.proofs.Fair.{NumsAre, counted, command-good}
 use Rattle.scanned.proofs.Walk.{cons-at}
+use Rattle.printed.proofs.Back.{AllNear, within-all, upTo-near}
 use Rattle.printed.proofs.Decimals.{within-bounds, within-near, near-bounds}
 use Rattle.command.specs.View.{part, actOf}
 use Rattle.command.proofs.Shift.{shifted, integers-shift, many-shift}
@@ -48,10 +49,6 @@ module _ (n : ℕ) (h : near n ≡ true) where
   cut-same = let b : (origin - most ≤ n) × (n ≤ origin + most) = near-bounds n h in omega arith
 
 -- ---- integers that are read again
-
--- all are within the limit of all numbers
-abbrev AllNear : List ℕ → Type 0
-AllNear ns = allTrue (map near ns) ≡ true
 
 -- as the code writes them
 abbrev again : List ℕ → List ℕ
@@ -110,24 +107,6 @@ module _ (s : List ℕ) where
 
     many-here : (f : ℕ) → Said s (at + k) (manyIntegers f k r)
     many-here f = said-shift at (at + k) (manyIntegers f k r) (rw (← many-shift f at k r, e) (many-said f (at + k)))
-
--- ---- limits: every number is near
-
-within-all : (lo hi : ℕ) → origin - most ≤ lo → hi ≤ origin + most → (ns : List ℕ) → allTrue (map (within lo hi) ns) ≡ true → AllNear ns
-within-all lo hi l m [] h = refl
-within-all lo hi l m (n ∷ ns) h =
-    rw (
-      within-near lo hi n l m (and-left (within lo hi n) (allTrue (map (within lo hi) ns)) h),
-      within-all lo hi l m ns (and-right (within lo hi n) (allTrue (map (within lo hi) ns)) h),
-    )
-
-upTo-near : (k : ℕ) (ns : List ℕ) → allTrue (upTo k ns) ≡ true → AllNear ns
-upTo-near k [] h = refl
-upTo-near k (n ∷ ns) h =
-    rw (
-      and-right (ltb 0 k) (near n) (and-left (ltb 0 k && near n) (allTrue (upTo (k - 1) ns)) h),
-      upTo-near (k - 1) ns (and-right (ltb 0 k && near n) (allTrue (upTo (k - 1) ns)) h),
-    )
 
 -- ---- arguments from the command's own numbers
 

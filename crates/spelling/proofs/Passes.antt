@@ -36,7 +36,7 @@ use Rattle.reader.proofs.Commands.{mountsAfterCmd}
 use Rattle.reader.proofs.Live.{Live, did-agrees, live-next}
 use Rattle.reader.proofs.Few.{Few, few, next-is}
 use Rattle.reader.proofs.Rows.{emitted-turns}
-use Rattle.reader.proofs.Passes.{Going, Room, length-map}
+use Rattle.reader.proofs.Passes.{Going, Room, length-map, after-none}
 use Rattle.spelling.specs.declared.Mark.{Mark}
 use Rattle.spelling.specs.Sheet.{Sheet, putAll}
 use Rattle.spelling.specs.Spelled.{mannerOf, penH, penV, spelledAt}
@@ -133,10 +133,6 @@ module _ (n : ℕ) (rs : List GlyphRow) (xs : List ItemRow) where
   room-next r st to i j e t u a b (inl h) = inl (h .0, h .1, omega (arith, t, h .2), omega (arith, u, h .3))
   room-next (refuse k o) st to i j e t u a b (inr h) = absurd h
   room-next (answer rs′ xs′ d) st to i j e t u a b (inr h) = inr (omega (arith, t, h .0, length-append rs rs′), omega (arith, u, h .1, length-append xs xs′))
-
-after-none : (r : Answer) → afterRows [] [] r ≡ r
-after-none (refuse k o) = refl
-after-none (answer rs xs d) = refl
 
 -- ---- a command of which nothing is refused, on to the place to
 

@@ -1,5 +1,5 @@
 -- The limits of what a sound width list says, for whoever computes with it. Assumes nothing.
-use Prim.Native.Nat.{ℕ, _+_, _≤_}
+use Prim.Native.Nat.{ℕ, _≤_}
 use mathlib.Core.Path.{_≡_, refl, subst}
 use mathlib.Core.Bool.{_&&_}
 use mathlib.Core.List.{List, [], _∷_}
@@ -8,8 +8,8 @@ use native.Mathlib.Omega.{arith}
 use borrow.Author.Tests.{leb-true, ltb-true}
 use lib.Dec.{eqb, leb, ltb}
 use lib.ListN.{length}
-use Rattle.rules.specs.Bytes.{bytes, same}
-use Rattle.rules.specs.Widths.{Line, Width, Font, Widths, Due, unitDue, blockDue, widthDue, LineRead, wrongLine, rightLine, behind, numbered, isString, isNew, mayFollow, addWidth, unitLine, byteLine, fontLine, widthLine, blockLine, lineSays, lineRead, lineOn, listEnds, linesFrom, linesSay, WidthList, unsound, sound, widthList, widthIn, widthOf}
+use Rattle.rules.specs.Bytes.{bytes}
+use Rattle.rules.specs.Widths.{Line, Width, Font, Widths, Due, unitDue, blockDue, widthDue, LineRead, wrongLine, rightLine, behind, numbered, isString, isNew, mayFollow, addWidth, unitLine, byteLine, fontLine, widthLine, blockLine, lineSays, lineRead, lineOn, listEnds, linesFrom, linesSay, WidthList, unsound, sound, widthList, widthIn}
 use Rattle.widths.specs.Table.{fontAt, entryFor}
 use Rattle.laws.proofs.Cases.{on, if-both, if-on, and-left, and-right}
 
@@ -108,14 +108,6 @@ small-in b k (p ∷ ps) s e =
     omega (arith, s .0))
     (λ q. small-in b k ps (s .1) (rw q at e))
 
-small-of : (n : List ℕ) (b k : ℕ) (fs : List Font) → SmallOf fs → widthOf n b fs ≡ some k → k ≤ 100000
-unfolding widthOf
-small-of n b k [] s e = absurd (let z : _≡_ {A = ℕ} 0 1 = cc in omega arith)
-small-of n b k (f ∷ fs) s e =
-    on (same (f .name) n)
-    (λ q. small-in b k (f .widths) (s .0) (rw q at e))
-    (λ q. small-of n b k fs (s .1) (rw q at e))
-
 small-at : (i : ℕ) (fs : List Font) → SmallOf fs → SmallIn (fontAt i fs .widths)
 unfolding fontAt
 small-at i [] s = tt
@@ -134,9 +126,6 @@ module _ (t : List ℕ) (w : Widths) (e : widthList t ≡ sound w) where
 
   pub sound-few : length (w .fonts) ≤ 32
   sound-few = sane .2
-
-  pub sound-small : (n : List ℕ) (b k : ℕ) → widthOf n b (w .fonts) ≡ some k → k ≤ 100000
-  sound-small n b k q = small-of n b k (w .fonts) (sane .3) q
 
   -- what the table holds for a byte of a font
   pub sound-entry : (i b : ℕ) → entryFor (widthIn b (fontAt i (w .fonts) .widths)) ≤ 100001

@@ -1,74 +1,20 @@
 -- The loop over the lines of a width list. Assumes nothing.
-use Prim.Native.Nat.{ℕ, suc, _+_, _-_, _≤_, _<_}
+use Prim.Native.Nat.{ℕ, _+_, _-_, _≤_, _<_}
 use mathlib.Core.Path.{_≡_, refl, sym, _∙_}
-use mathlib.Core.Bool.{true, false}
 use mathlib.Core.List.{List, [], _∷_}
-use native.Mathlib.Nat.{add-zero}
 use native.Mathlib.Omega.{arith}
 use borrow.Author.Needs.{needs}
-use borrow.Author.Tests.{lt-ltb, le-ltb, ltb-true, ltb-false}
+use borrow.Author.Tests.{ltb-true}
 use lib.Dec.{ltb}
-use lib.ListN.{length, take, drop, length-drop, drop-of-length-le}
+use lib.ListN.{length, drop, length-drop, drop-of-length-le}
 use lib.Seq.{drop-drop}
-use Rattle.rules.specs.Bytes.{is, span, oneLine}
-use Rattle.rules.specs.Widths.{Line, Widths, Due, unitDue, blockDue, widthDue, LineRead, wrongLine, rightLine, withByte, linesFrom, lineOn, listEnds, linesSay, unsound, sound, widthList}
+use Rattle.rules.specs.Widths.{Line, Widths, Due, unitDue, blockDue, widthDue, LineRead, wrongLine, rightLine, linesFrom, lineOn, listEnds, linesSay, unsound, sound, widthList}
 use Rattle.laws.proofs.Cases.{on}
+use Rattle.lex.proofs.Lines.{line-first}
 use Rattle.widths.specs.declared.State.{State}
 use Rattle.widths.specs.declared.ListAnswer.the-variants.{Unsound, Sound}
 use Rattle.widths.specs.Table.{listOf, Loaded}
 use Rattle.widths.specs.Reading.{Holds, After, Told, Good, Room, turnSays, lengthAt, lineAt}
-
--- ---- one line further
-abbrev lineOf : ℕ → ℕ → List ℕ → Line
-lineOf at n r = record { place = at; text = take n r; ended = ltb n (length r) }
-
-module _ (at b : ℕ) (r : List ℕ) where
-  module _ (e : is "\n" b ≡ true) where
-    no-bytes : oneLine (b ∷ r) ≡ 0
-    unfolding span
-    no-bytes = rw e
-
-    newline : linesFrom at (b ∷ r) ≡ record { place = at; text = []; ended = true } ∷ linesFrom (at + 1) r
-    unfolding linesFrom
-    newline = rw e
-
-  module _ (e : is "\n" b ≡ false) where
-    more-bytes : oneLine (b ∷ r) ≡ suc (oneLine r)
-    unfolding span
-    more-bytes = rw e
-
-    byte : linesFrom at (b ∷ r) ≡ withByte at b (linesFrom (at + 1) r)
-    unfolding linesFrom
-    byte = rw e
-
-ltb-suc : (n m : ℕ) → ltb (suc n) (suc m) ≡ ltb n m
-ltb-suc n m =
-    on (ltb n m)
-    (λ e. rw (e, lt-ltb (suc n) (suc m) (omega (arith, ltb-true n m e))))
-    (λ e. rw (e, le-ltb (suc n) (suc m) (omega (arith, ltb-false n m e))))
-
-byte-on : (at b n : ℕ) (r : List ℕ) → withByte at b (lineOf (at + 1) n r ∷ linesFrom (at + 1 + n + 1) (drop (n + 1) r))
-    ≡ lineOf at (suc n) (b ∷ r) ∷ linesFrom (at + suc n + 1) (drop (suc n + 1) (b ∷ r))
-byte-on at b n r =
-    let e : at + suc n + 1 ≡ at + 1 + n + 1 = omega arith in
-    let f : suc n + 1 ≡ suc (n + 1) = omega arith in
-    rw (e, f, ltb-suc n (length r))
-
-last : (at b : ℕ) → withByte at b (linesFrom (at + 1) []) ≡ lineOf at (suc (oneLine [])) (b ∷ []) ∷ linesFrom (at + suc (oneLine []) + 1) (drop (suc (oneLine []) + 1) (b ∷ []))
-unfolding linesFrom span
-last at b = refl
-
-abbrev Lined : ℕ → List ℕ → Type 0
-Lined at r = linesFrom at r ≡ lineOf at (oneLine r) r ∷ linesFrom (at + oneLine r + 1) (drop (oneLine r + 1) r)
-
-newline-on : (at b : ℕ) (r : List ℕ) → is "\n" b ≡ true → Lined at (b ∷ r)
-newline-on at b r e = rw (no-bytes at b r e, newline at b r e, lt-ltb 0 (suc (length r)) (omega arith), add-zero)
-
-lines-on : (at b : ℕ) (r : List ℕ) → Lined at (b ∷ r)
-lines-on at b [] = on (is "\n" b) (newline-on at b []) (λ e. rw (more-bytes at b [] e, byte at b [] e) (last at b))
-lines-on at b (c ∷ r) =
-    on (is "\n" b) (newline-on at b (c ∷ r))
-    (λ e. rw (more-bytes at b (c ∷ r) e, byte at b (c ∷ r) e, lines-on (at + 1) c r) (byte-on at b (oneLine (c ∷ r)) (c ∷ r)))
 
 abbrev linesAt : List ℕ → ℕ → List Line
 linesAt list at = linesFrom at (drop at list)
@@ -76,11 +22,7 @@ linesAt list at = linesFrom at (drop at list)
 lines-at : (list : List ℕ) (at : ℕ) → at < length list → linesAt list at ≡ lineAt list at ∷ linesAt list (at + lengthAt list at + 1)
 lines-at list at h =
     let e : at + (lengthAt list at + 1) ≡ at + lengthAt list at + 1 = omega arith in
-    by (drop at list) (omega (arith, length-drop at list)) ∙ rw (drop-drop (lengthAt list at + 1) at list, e)
-  where
-    by : (r : List ℕ) → 0 < length r → Lined at r
-    by [] l = absurd (omega arith)
-    by (b ∷ r) l = lines-on at b r
+    line-first at (drop at list) (omega (arith, length-drop at list)) ∙ rw (drop-drop (lengthAt list at + 1) at list, e)
 
 -- ---- the loop: the lines still to come, from what has been reached, say what the whole list says
 pub record Going (list T P L : List ℕ) (st : State) : Type 0 where

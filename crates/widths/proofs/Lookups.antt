@@ -1,6 +1,6 @@
 -- What the places of the names and the table say of the rules' fonts. Assumes nothing.
 use Prim.Native.Nat.{ℕ, _+_, _*_, _≤_, _<_}
-use mathlib.Core.Path.{_≡_, refl, _∙_}
+use mathlib.Core.Path.{_≡_, refl}
 use mathlib.Core.List.{List, [], _∷_}
 use native.Mathlib.Omega.{arith}
 use borrow.Author.Tests.{eq-eqb, ne-eqb}
@@ -53,16 +53,7 @@ new-slot n (f ∷ fs) h =
     (λ e. rw (e, ne-eqb (length fs) 32 (λ (q : length fs ≡ 32). omega arith)))
     (λ e. rw e (new-slot n fs (omega arith)))
 
--- ---- the same, as a caller of `slot` and `width` has it
-pub slot-is : (list places lens n : List ℕ) (fs : List Font) (fonts r : ℕ) → NamesOf list fs places lens → fonts ≡ length fs
-    → r ≡ slotIn list places lens fonts n → r ≡ slotOf n fs
-slot-is list places lens n fs fonts r h e q = q ∙ rw e (slot-names list places lens n fs h)
-
 pub slot-le : (n : List ℕ) (fs : List Font) → length fs ≤ 32 → slotOf n fs ≤ 32
 unfolding slotOf
 slot-le n [] h = omega arith
 slot-le n (f ∷ fs) h = if-both (λ (k : ℕ). k ≤ 32) (same (f .name) n) (length fs) (slotOf n fs) (omega arith) (slot-le n fs (omega arith))
-
-pub width-is : (n : List ℕ) (b : ℕ) (fs : List Font) (table : List ℕ) (s r : ℕ) → TableOf fs table → length table ≡ 8192 → b < 256 → s ≡ slotOf n fs
-    → r ≡ getD table (s * 256 + b) 0 → r ≡ entryFor (widthOf n b fs)
-width-is n b fs table s r h l k e q = q ∙ rw e (width-table n b fs table h l k)

@@ -1,46 +1,18 @@
--- Runs of bytes compared, parts of the list, and the slot of a name. Assumes nothing.
+-- Parts of the list, and the slot of a name. Assumes nothing.
 use Prim.Native.Nat.{ℕ, suc, _+_, _-_, _≤_, _<_, min}
-use mathlib.Core.Path.{_≡_, refl, sym, ap, _∙_}
-use mathlib.Core.Bool.{Bool, true, false, _&&_}
-use mathlib.Core.List.{List, [], _∷_}
-use native.Mathlib.Numerals.{add-one}
+use mathlib.Core.Path.{_≡_, sym, _∙_}
+use mathlib.Core.Bool.{Bool, true, false}
+use mathlib.Core.List.{List}
 use native.Mathlib.Omega.{arith}
 use borrow.Author.Needs.{needs}
-use borrow.Author.Tests.{eq-eqb, ne-eqb, leb-true, leb-false}
-use lib.Dec.{eqb, leb}
-use lib.ListN.{length, take, drop, getD, length-drop, drop-of-length-le, List·getD-eq-default}
-use lib.Seq.{drop-cons, take-all, take-length, drop-length}
+use borrow.Author.Tests.{leb-true, leb-false}
+use lib.Dec.{leb}
+use lib.ListN.{length, take, drop, getD, length-drop, drop-of-length-le}
+use lib.Seq.{take-all, take-length, drop-length}
 use Rattle.rules.specs.Bytes.{if_then_else_, same}
 use Rattle.laws.proofs.Cases.{on}
+use Rattle.lex.proofs.Runs.{past-end}
 use Rattle.widths.specs.Slots.{partOf, nameAt, slotIn}
-
-pub rest-cons : (s : List ℕ) (i : ℕ) → i < length s → drop i s ≡ getD s i 0 ∷ drop (i + 1) s
-rest-cons s i h = rw (add-one, drop-cons s i 0)
-
--- ---- two runs of bytes
-pub same-lengths : (a b : List ℕ) → (length a ≡ length b → ⊥) → false ≡ same a b
-unfolding same
-same-lengths [] [] h = absurd (h refl)
-same-lengths [] (y ∷ ys) h = refl
-same-lengths (x ∷ xs) [] h = refl
-same-lengths (x ∷ xs) (y ∷ ys) h =
-    on (eqb x y) (λ e. rw e (same-lengths xs ys (λ l. h (ap suc l)))) (λ e. rw e)
-
-module _ (a b : List ℕ) (i : ℕ) (v : same a b ≡ same (drop i a) (drop i b)) (l : length a ≡ length b) where
-  pub same-over : length a ≤ i → true ≡ same a b
-  unfolding same
-  same-over h = sym (v ∙ rw (drop-of-length-le a h, drop-of-length-le b {i = i} (omega arith)))
-
-  module _ (h : i < length a) where
-    fronts : same a b ≡ (eqb (getD a i 0) (getD b i 0) && same (drop (i + 1) a) (drop (i + 1) b))
-    unfolding same
-    fronts = v ∙ rw (rest-cons a i h, rest-cons b i (omega arith))
-
-    pub same-more : getD a i 0 ≡ getD b i 0 → same a b ≡ same (drop (i + 1) a) (drop (i + 1) b)
-    same-more e = fronts ∙ rw (eq-eqb _ _ e)
-
-    pub same-off : (getD a i 0 ≡ getD b i 0 → ⊥) → false ≡ same a b
-    same-off e = sym (fronts ∙ rw (ne-eqb _ _ e))
 
 -- ---- a part
 take-min : (n : ℕ) (l : List ℕ) → take (min n (length l)) l ≡ take n l
@@ -69,9 +41,6 @@ part-cut s place len start size p q =
     let d : drop start s ≡ drop place s = rw p (drop-min place s) in
     let e : start + size - start ≡ min len (length (drop start s)) = omega (arith, length-drop start s) in
     rw (e, take-min, d)
-
-pub past-end : (s : List ℕ) (i : ℕ) → length s ≤ i → 0 ≡ getD s i 0
-past-end s i h = sym (List·getD-eq-default s 0 h)
 
 -- ---- the slot of a name
 pub named-is : (list places lens name own : List ℕ) (i p l : ℕ) (t : Bool) → t ≡ same own name → own ≡ partOf list p l → p ≡ getD places i 0 → l ≡ getD lens i 0
@@ -102,4 +71,4 @@ slot-none list places lens name fonts k v h =
     let e : k ≡ 0 = omega arith in
     sym (v ∙ rw e)
 
-pub ruleset names = (same-lengths, same-over, same-more, same-off, part-cut, past-end, named-is, slot-part, slot-here, slot-more, slot-none, needs)
+pub ruleset names = (part-cut, past-end, named-is, slot-part, slot-here, slot-more, slot-none, needs)

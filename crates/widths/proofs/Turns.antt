@@ -1,37 +1,30 @@
 -- A line of any kind, and the loop over the lines. Assumes nothing.
-use Prim.Native.Nat.{ℕ, zero, suc, _+_, _-_, _≤_, _<_}
+use Prim.Native.Nat.{ℕ, _+_, _-_, _≤_, _<_}
 use mathlib.Core.Path.{_≡_, sym, ap, _∙_, subst}
 use mathlib.Core.Bool.{Bool, true, false}
-use mathlib.Core.List.{List, [], _∷_}
+use mathlib.Core.List.{List}
 use mathlib.Core.Option.{some}
 use native.Mathlib.Omega.{arith}
 use borrow.Author.Needs.{needs}
 use borrow.Author.Tests.{lt-ltb, le-ltb}
 use lib.Dec.{ltb}
 use lib.ListN.{length, take, drop, length-take, length-drop}
-use lib.Seq.{take-take, take-nil, drop-drop}
-use Rattle.rules.specs.Bytes.{bytes, same, oneLine}
+use lib.Seq.{take-take, drop-drop}
+use Rattle.rules.specs.Bytes.{bytes, same, isNotNewline}
 use Rattle.rules.specs.Widths.{Widths, Due, unitDue, blockDue, widthDue, behind}
 use Rattle.widths.specs.declared.State.{State}
 use Rattle.widths.specs.Slots.{partOf}
 use Rattle.widths.specs.Reading.{Holds, After, Judged, Stored, Told, unitSays, byteSays, fontSays, blockSays, widthSays, turnSays, lengthAt}
-use Rattle.widths.proofs.Texts.{key-short, key-on, key-off, rest-is}
+use Rattle.lex.specs.At.{runEnd}
+use Rattle.lex.proofs.Runs.{run-from, run-within}
+use Rattle.lex.proofs.Lines.{line-from, key-short, key-on, key-off, drop-take}
 
 -- ---- `font=NAME`, else `byte=N`
-drop-take : (k n : ℕ) (l : List ℕ) → drop k (take n l) ≡ take (n - k) (drop k l)
-drop-take zero n l = let e : n - 0 ≡ n = omega arith in rw e
-drop-take (suc k) zero l = let e : 0 - suc k ≡ 0 = omega arith in rw e
-drop-take (suc k) (suc n) [] = sym (take-nil (suc n - suc k))
-drop-take (suc k) (suc n) (x ∷ l) = let e : suc n - suc k ≡ n - k = omega arith in rw e (drop-take k n l)
-
 part-rest : (list : List ℕ) (at len k : ℕ) → drop k (partOf list at len) ≡ partOf list (at + k) (len - k)
 part-rest list at len k = drop-take k len (drop at list) ∙ rw (drop-drop k at list)
 
 part-front : (list : List ℕ) (at len k : ℕ) → k ≤ len → take k (partOf list at len) ≡ partOf list at k
 part-front list at len k h = take-take k len (drop at list) h
-
-part-length : (list : List ℕ) (at len : ℕ) → at + len ≤ length list → length (partOf list at len) ≡ len
-part-length list at len h = omega (arith, length-take len (drop at list), length-drop at list)
 
 part-short : (list : List ℕ) (at len : ℕ) → length (partOf list at len) ≤ len
 part-short list at len = omega (arith, length-take len (drop at list))
@@ -53,7 +46,7 @@ module _ (list T P L t : List ℕ) (len next : ℕ) (st r : State) (et : t ≡ p
   block-byte own f e eo g h l =
       let q : same fontKey (take 5 (partOf list (st .at) len)) ≡ false = rw (part-front list (st .at) len 5 h, ← eo) (sym e ∙ g) in
       record {
-        told = λ w d v. rw (key-off fontKey (partOf list (st .at) len) (omega (arith, part-length list (st .at) len l)) q) (byte-told w d v);
+        told = λ w d v. rw (key-off fontKey (partOf list (st .at) len) q) (byte-told w d v);
       }
 
 pub block-font : (list T P L T′ P′ L′ own : List ℕ) (len next : ℕ) (st r : State) (f : Bool) → f ≡ same fontKey own → own ≡ partOf list (st .at) 5 → f ≡ true → 5 ≤ len
@@ -65,11 +58,13 @@ block-font list T P L T′ P′ L′ own len next st r f e eo g h v =
     record { told = λ w d u. rw n (v .told w d u) }
 
 -- ---- a line of any kind
-pub line-is : (list : List ℕ) (at n : ℕ) → n ≡ oneLine (take (length list - at) (drop at list)) → n ≡ lengthAt list at
-line-is list at n e = e ∙ rw (rest-is at list)
+module _ (list : List ℕ) (at e : ℕ) (p : e ≡ runEnd isNotNewline list at) where
+  pub line-is : e - at ≡ lengthAt list at
+  unfolding runEnd
+  line-is = omega (arith, p)
 
-pub line-within : (list : List ℕ) (at n : ℕ) → at ≤ length list → n ≤ length (take (length list - at) (drop at list)) → at + n ≤ length list
-line-within list at n h l = omega (arith, length-take (length list - at) (drop at list), length-drop at list)
+  pub line-within : at ≤ length list → at + (e - at) ≤ length list
+  line-within h = omega (arith, run-within isNotNewline list at h, run-from isNotNewline list at)
 
 module _ (list T P L : List ℕ) (st r : State) (len : ℕ) (e : len ≡ lengthAt list (st .at)) where
   pub turn-open : length list ≤ st .at + len → r .due ≡ 3 → Told list T P L T P L (st .at + lengthAt list (st .at) + 1) st r (turnSays list (st .at))
@@ -112,4 +107,4 @@ module _ (list T P L : List ℕ) (st r : State) (len : ℕ) (e : len ≡ lengthA
 pub due-width : (st : State) → (Unit {0} × (st .due ≡ 0 → ⊥)) × (st .due ≡ 1 → ⊥) → 2 ≤ st .due
 due-width st h = omega arith
 
-pub ruleset turning = (block-short, block-byte, block-font, line-is, line-within, turn-open, turn-unit, turn-block, turn-width, due-width, needs)
+pub ruleset turning = (block-short, block-byte, block-font, line-from, line-is, line-within, turn-open, turn-unit, turn-block, turn-width, due-width, needs)

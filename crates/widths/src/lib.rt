@@ -2,8 +2,8 @@
 ghost use mathlib.Core.Path.{_≡_};
 ghost use Prim.Native.Nat.{_+_, _-_, _*_, _≤_, _<_, min};
 ghost use lib.ListN.{getD, length};
-ghost use Rattle.rules.specs.Bytes.{same, isDigit, isNotWhite, isNotNewline, oneLine, string};
-ghost use Rattle.rules.specs.Widths.{advance, behind, numbered, plainNumber, isByte, isString, widthList};
+ghost use Rattle.rules.specs.Bytes.{same};
+ghost use Rattle.rules.specs.Widths.{advance, behind, numbered, plainNumber, isByte, widthList};
 ghost use Rattle.widths.specs.Reading.{cut, digitsCut, canFollow, isFresh, Good, Room, Cleared, Judged, Stored, Told, unitSays, byteSays, fontSays, blockSays, widthSays, turnSays, lengthAt};
 ghost use Rattle.widths.specs.Table.{listOf, Loaded};
 ghost use Rattle.widths.specs.Slots.{partOf, nameAt, slotIn};
@@ -45,25 +45,6 @@ pub fn width(table: &[u32], slot: usize, b: u8) -> u32
     if i < table.len() { table[i] } else { 0 }
 }
 
-// Whether two runs of bytes are equal.
-pub fn same_bytes(a: &[u8], b: &[u8]) -> bool
-    ensures { λ r. ⌜ r ≡ same (now (a .entry)) (now (b .entry)) ⌝ }
-{
-    if a.len() == b.len() {
-        let mut i = 0;
-        while i < a.len() {
-            if a[i] == b[i] {
-                i += 1;
-            } else {
-                return false;
-            }
-        }
-        true
-    } else {
-        false
-    }
-}
-
 // The smaller of two numbers.
 fn least(a: usize, b: usize) -> usize
     ensures { λ r. ⌜ (r ≤ a) × (r ≤ b) × (r ≡ min a b) ⌝ }
@@ -93,7 +74,7 @@ fn is_named(list: &[u8], places: &[u32], lens: &[u32], i: usize, name: &[u8]) ->
     ensures { λ r. ⌜ r ≡ same (nameAt (now (list .entry)) (now (places .entry)) (now (lens .entry)) i) (now (name .entry)) ⌝ }
 {
     let own = part(list, wide(places[i]), wide(lens[i]));
-    same_bytes(own, name)
+    lex::same_bytes(own, name)
 }
 
 // The slot of the font with a name, 32 where there is none. The newest font is looked at first.
@@ -128,85 +109,16 @@ pub fn slot(
     slot_of(list, places, lens, fonts, part(s, place, len))
 }
 
-fn is_digit(b: u8) -> bool
-    ensures { λ r. ⌜ r ≡ isDigit b ⌝ }
-{
-    (48 <= b) & (b <= 57)
-}
-
-fn is_not_white(b: u8) -> bool
-    ensures { λ r. ⌜ r ≡ isNotWhite b ⌝ }
-{
-    !((b == 32) | (b == 9) | (b == 10))
-}
-
-fn is_not_newline(b: u8) -> bool
-    ensures { λ r. ⌜ r ≡ isNotNewline b ⌝ }
-{
-    !(b == 10)
-}
-
-// How many bytes stand in front of the first newline.
-fn one_line(t: &[u8]) -> usize
-    ensures { λ r. ⌜ (r ≡ oneLine (now (t .entry))) × (r ≤ length (now (t .entry))) ⌝ }
-{
-    let mut i = 0;
-    while i < t.len() && is_not_newline(t[i]) {
-        i += 1;
-    }
-    i
-}
-
-// How many bytes stand in front of the first whitespace.
-fn string_len(t: &[u8]) -> usize
-    ensures { λ r. ⌜ r ≡ string (now (t .entry)) ⌝ }
-{
-    let mut i = 0;
-    while i < t.len() && is_not_white(t[i]) {
-        i += 1;
-    }
-    i
-}
-
-fn is_string(t: &[u8]) -> bool
-    ensures { λ r. ⌜ r ≡ isString (now (t .entry)) ⌝ }
-{
-    let n = string_len(t);
-    (0 < t.len()) & ((t.len() <= 64) & (n == t.len()))
-}
-
-fn digit_of(b: u8) -> u32
-    ensures { λ r. ⌜ r ≡ b - 48 ⌝ }
-{
-    if b < 48 { 0 } else { (b - 48) as u32 }
-}
-
-// The number with one more digit, or 100001 where it is that or more.
-fn with_digit(n: u32, b: u8) -> u32
-    ensures { λ r. ⌜ r ≡ min (n * 10 + (b - 48)) 100001 ⌝ }
-{
-    if 10001 <= n {
-        return 100001;
-    }
-    let next = n * 10 + digit_of(b);
-    if next < 100001 { next } else { 100001 }
-}
-
 // The number of a text of digits alone, cut at 100001; 100001 for any other text.
 fn digits(t: &[u8]) -> u32
     ensures { λ r. ⌜ r ≡ digitsCut (now (t .entry)) ⌝ }
 {
-    let mut n = 0;
-    let mut i = 0;
-    while i < t.len() {
-        if is_digit(t[i]) {
-            n = with_digit(n, t[i]);
-            i += 1;
-        } else {
-            return 100001;
-        }
+    let d = lex::digits(t, 0);
+    if d.next == t.len() {
+        if d.value <= 100000 { d.value } else { 100001 }
+    } else {
+        100001
     }
-    n
 }
 
 // The number that a text is, without leading zeros, cut at 100001; 100001 where it is none.
@@ -233,7 +145,7 @@ fn keyed_number(t: &[u8], key: &[u8]) -> u32
     if t.len() < k {
         return 100001;
     }
-    if same_bytes(key, &t[..k]) {
+    if lex::same_bytes(key, &t[..k]) {
         number(&t[k..])
     } else {
         100001
@@ -357,7 +269,7 @@ fn is_fresh(list: &[u8], places: &[u32], lens: &[u32], fonts: usize, name: &[u8]
     requires { ⌜ (fonts ≤ length (now places)) × (fonts ≤ length (now lens)) ⌝ }
     ensures { λ r. ⌜ r ≡ isFresh (now (list .entry)) (now (places .entry)) (now (lens .entry)) fonts (now (name .entry)) ⌝ }
 {
-    let ok = is_string(name);
+    let ok = lex::is_string(name);
     let k = slot_of(list, places, lens, fonts, name);
     ok & (k == 32)
 }
@@ -416,7 +328,7 @@ fn block_line(
     if len < 5 {
         return byte_line(t, st, next);
     }
-    if same_bytes(b"font=", part(list, at, 5)) {
+    if lex::same_bytes(b"font=", part(list, at, 5)) {
         let place = at + 5;
         font_line(list, place, len - 5, table, places, lens, st, next)
     } else {
@@ -429,7 +341,7 @@ fn line_len(list: &[u8], at: usize) -> usize
     requires { ⌜ at ≤ length (now list) ⌝ }
     ensures { λ r. ⌜ (r ≡ lengthAt (now (list .entry)) at) × (at + r ≤ length (now (list .entry))) ⌝ }
 {
-    one_line(&list[at..])
+    lex::line_end(list, at) - at
 }
 
 // One line: what is due says which.

@@ -6,7 +6,7 @@ use Rattle.matching.proofs.test.Lts as lts
 use Rattle.matching.proofs.gap_test.Reads as gap-test-reads
 use Rattle.matching.proofs.wide.Reads as wide-reads
 use Rattle.query.proofs.part.Reads as part-reads
-use Rattle.query.proofs.same_bytes.Reads as same-bytes-reads
+use Rattle.lex.proofs.same_bytes.Reads as same-bytes-reads
 
 returns : tie.Need-returns
 returns c = search glyph-tests
