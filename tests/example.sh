@@ -1,5 +1,6 @@
 #!/usr/bin/env bash
-# The example of the guide, examples/find.c, compiled against the library that ./build makes, and run on the sample ruling.
+# The example of the guide, examples/find.c, compiled against the library that ./build makes, and run on the sample ruling; and the
+# commands of README.md, which must print what it says.
 set -u
 cd "$(dirname "$0")/.." || exit 2
 work=$(mktemp -d)
@@ -37,6 +38,18 @@ run 'a wrong query' 'glyph=f\ngap=any\n' 1 '0 hits, refusal 12 at 8\n'
 "$work/find" samples/ruling.out samples/ruling.widths "$work/missing" 2> "$work/said"
 [ $? -eq 2 ] && grep -q missing "$work/said"
 count 'a missing file' $?
+
+# The indented lines of a section of README.md.
+lines() { # HEADING
+    awk -v heading="## $1" '$0 == heading { on = 1; next } /^## / { on = 0 } on && /^    / { print substr($0, 5) }' README.md
+}
+
+search=$(lines 'Two commands' | sed -n 's|^\./build && ||p')
+[ "$(bash -c "$search")" = "$(lines 'Two commands' | grep -E '^(hit|found) ')" ] && [ -n "$search" ]
+count "README's first command" $?
+commands=$(lines 'From C' | grep -E '^(cc|printf|target/)')
+[ "$(bash -e -c "$commands")" = "$(lines 'From C' | grep -E '^(record|[0-9]+ hits)')" ] && [ -n "$commands" ]
+count "README's commands for C" $?
 
 echo "$passed passed, $failed failed"
 [ "$failed" -eq 0 ]

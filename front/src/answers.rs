@@ -2,8 +2,8 @@
 //! lacks room, and they are kept from stream to stream.
 
 use crate::args::Command;
-use crate::library::{self, Entry, JudgeResult, ReadResult, Record, SPELLING_LIMIT};
 use crate::reasons::{Explained, Inputs, Refusal};
+use library::{Entry, JudgeResult, ReadResult, Record, SPELLING_LIMIT};
 use std::collections::TryReserveError;
 
 /// An answer, in the rows it was written to.

@@ -2,9 +2,9 @@
 
 use crate::answers::Answer;
 use crate::files::{printable, Source};
-use crate::library::JudgeResult;
 use crate::output::Output;
 use crate::reasons::Explained;
+use library::JudgeResult;
 use std::ffi::OsStr;
 use std::io::{self, IsTerminal, Write};
 

@@ -2,9 +2,9 @@
 //! 255, so that nothing is lost; the name of a file is text.
 
 use crate::answers::Answer;
-use crate::library::{Colour, Entry, JudgeResult, ReadResult, Record, SPELLING_LIMIT};
 use crate::reasons::{About, Explained};
 use crate::text::push_number;
+use library::{Colour, Entry, JudgeResult, ReadResult, Record, SPELLING_LIMIT};
 use std::ffi::OsStr;
 use std::io::{self, Write};
 

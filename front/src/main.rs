@@ -7,7 +7,6 @@ mod check;
 mod files;
 mod help;
 mod json;
-mod library;
 mod output;
 mod printer;
 mod reasons;

@@ -1,6 +1,6 @@
 //! Refusals in words: the reason of 01's table, what it is about, and where.
 
-use crate::library::{LIST_LIMIT, QUERY_LIMIT, STREAM_LIMIT};
+use library::{LIST_LIMIT, QUERY_LIMIT, STREAM_LIMIT};
 
 const TOO_LONG: u32 = 1;
 const WIDTH_LIST: u32 = 2;

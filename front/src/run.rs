@@ -4,10 +4,10 @@ use crate::answers::Rows;
 use crate::args::{self, Action, Job, Query};
 use crate::files;
 use crate::help;
-use crate::library::{LIST_LIMIT, QUERY_LIMIT, STREAM_LIMIT};
 use crate::output::{Output, FAILED};
 use crate::printer::Printer;
 use crate::reasons::{About, Inputs};
+use library::{LIST_LIMIT, QUERY_LIMIT, STREAM_LIMIT};
 use std::ffi::OsString;
 use std::io::{self, Write};
 

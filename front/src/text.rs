@@ -1,8 +1,8 @@
 //! The text of FORMATS: what the commands print, byte for byte.
 
 use crate::answers::Answer;
-use crate::library::{Colour, Entry, ReadResult, Record};
 use crate::reasons::Explained;
+use library::{Colour, Entry, ReadResult, Record};
 use std::ffi::OsStr;
 use std::io::{self, Write};
 use std::os::unix::ffi::OsStrExt;

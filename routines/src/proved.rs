@@ -1,111 +1,15 @@
 //! The proved code, through the library `target/lib/libmrkvandel.a`.
 
 use crate::text::{found_text, glyphs_text};
-use crate::{Entry, FindResult, JudgeResult, ReadResult, Record, RespellResult, Search};
+use crate::{Entry, FindResult, Record, Search};
 use second::refusal::{Refusal, Rooms, SPELLING_LIMIT};
 use second::vectors::Program;
 
-// A slice crosses as its pointer and its length. The functions have no `requires`: every slice will
-// do. Rust lets no `&mut` slice overlap another one.
-extern "C" {
-    fn mrkvandel_read(
-        stream: *const u8,
-        stream_len: usize,
-        widths: *const u8,
-        widths_len: usize,
-        records: *mut Record,
-        records_len: usize,
-        entries: *mut Entry,
-        entries_len: usize,
-    ) -> ReadResult;
-
-    fn mrkvandel_find(
-        stream: *const u8,
-        stream_len: usize,
-        widths: *const u8,
-        widths_len: usize,
-        query: *const u8,
-        query_len: usize,
-        records: *mut Record,
-        records_len: usize,
-        hits: *mut u32,
-        hits_len: usize,
-    ) -> FindResult;
-
-    fn mrkvandel_respell(
-        stream: *const u8,
-        stream_len: usize,
-        widths: *const u8,
-        widths_len: usize,
-        out: *mut u8,
-        out_len: usize,
-    ) -> RespellResult;
-
-    fn mrkvandel_judge(
-        stream: *const u8,
-        stream_len: usize,
-        widths: *const u8,
-        widths_len: usize,
-    ) -> JudgeResult;
-}
-
-/// Reads a stream with its width list into the rows.
-pub fn read(stream: &[u8], widths: &[u8], records: &mut [Record], entries: &mut [Entry]) -> ReadResult {
-    // SAFETY: pointers and lengths are those of slices; the inputs are only read; every content of a
-    // row is a record or an entry, as all their fields are plain numbers
-    unsafe {
-        mrkvandel_read(
-            stream.as_ptr(),
-            stream.len(),
-            widths.as_ptr(),
-            widths.len(),
-            records.as_mut_ptr(),
-            records.len(),
-            entries.as_mut_ptr(),
-            entries.len(),
-        )
-    }
-}
+pub use library::{judge, read, respell};
 
 /// Finds a query in a stream with its width list; the records and the hits go into the rows.
 pub fn find(search: Search, records: &mut [Record], hits: &mut [u32]) -> FindResult {
-    let Search { stream, list, query } = search;
-    // SAFETY: as for `read`
-    unsafe {
-        mrkvandel_find(
-            stream.as_ptr(),
-            stream.len(),
-            list.as_ptr(),
-            list.len(),
-            query.as_ptr(),
-            query.len(),
-            records.as_mut_ptr(),
-            records.len(),
-            hits.as_mut_ptr(),
-            hits.len(),
-        )
-    }
-}
-
-/// Rewrites a stream with its width list in the house spelling, which goes into the buffer.
-pub fn respell(stream: &[u8], widths: &[u8], out: &mut [u8]) -> RespellResult {
-    // SAFETY: as for `read`
-    unsafe {
-        mrkvandel_respell(
-            stream.as_ptr(),
-            stream.len(),
-            widths.as_ptr(),
-            widths.len(),
-            out.as_mut_ptr(),
-            out.len(),
-        )
-    }
-}
-
-/// Judges a stream with its width list, room aside.
-pub fn judge(stream: &[u8], widths: &[u8]) -> JudgeResult {
-    // SAFETY: as for `read`
-    unsafe { mrkvandel_judge(stream.as_ptr(), stream.len(), widths.as_ptr(), widths.len()) }
+    library::find(search.stream, search.list, search.query, records, hits)
 }
 
 /// The library as a program that answers texts, for the vectors.

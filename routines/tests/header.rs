@@ -299,29 +299,3 @@ fn judging_can_be_called_from_c_and_cplusplus() {
         assert!((10..90).contains(&accepted), "{accepted} of 100 streams are accepted");
     }
 }
-
-/// The indented lines of README.md's example: its commands, and what they are said to print.
-fn readme_example() -> (String, String) {
-    let readme = text_of("README.md");
-    let (_, behind) = readme.split_once("## Finding, by example\n").expect("README.md has the example");
-    let (example, _) = behind.split_once("\n## ").expect("another section follows");
-    let (shell, _) = example.split_once("In C").expect("the example ends with C");
-    let lines = shell.lines().filter_map(|line| line.strip_prefix("    "));
-    let is_printed = |line: &&str| line.starts_with("hit ") || line.starts_with("found ");
-    let (printed, commands): (Vec<&str>, Vec<&str>) = lines.partition(is_printed);
-    (commands.join("\n"), printed.join("\n") + "\n")
-}
-
-/// With `find.c` in the place of the program `find`, one search and three more print what is said.
-#[test]
-fn the_example_of_the_readme_holds() {
-    let (commands, printed) = readme_example();
-    assert_eq!(commands.matches("target/bin/find").count(), 2, "{commands}");
-    let [program, folder] = ["find-readme", "readme"].map(temporary);
-    compile(C, "find.c", &program);
-    std::fs::create_dir_all(&folder).expect("a folder can be made");
-    let commands = commands.replace("target/bin/find", program.to_str().expect("a path in UTF-8"));
-    let output = Command::new("sh").args(["-e", "-c", &commands]).current_dir(&folder).output();
-    let output = output.expect("a shell can be run");
-    assert_eq!(String::from_utf8_lossy(&output.stdout), printed.repeat(4));
-}

@@ -1,5 +1,6 @@
-//! The proved library: its structs, field for field as in `../include/mrkvandel.h`, which says what
-//! each holds, and its functions over slices.
+//! The proved library from Rust, for the program and for the tests: its structs, field for field as in
+//! `../include/mrkvandel.h`, which says what each holds, and its functions over slices. Structs of which
+//! rows are made have no padding, so that fields that are equal are bytes that are.
 
 /// The most bytes of a stream, of a width list and of a query; more is refused as 1.
 pub const STREAM_LIMIT: usize = 16_777_216;
@@ -218,23 +219,5 @@ pub fn respell(stream: &[u8], widths: &[u8], out: &mut [u8]) -> RespellResult {
             out.as_mut_ptr(),
             out.len(),
         )
-    }
-}
-
-#[cfg(test)]
-mod tests {
-    use super::*;
-    use std::mem::size_of;
-
-    /// The sizes that the header asserts.
-    #[test]
-    fn the_structs_have_the_sizes_of_the_header() {
-        assert_eq!(size_of::<Record>(), 40);
-        assert_eq!(size_of::<Entry>(), 32);
-        assert_eq!(size_of::<Colour>(), 20);
-        assert_eq!(size_of::<ReadResult>(), 80);
-        assert_eq!(size_of::<FindResult>(), 32);
-        assert_eq!(size_of::<RespellResult>(), 24);
-        assert_eq!(size_of::<JudgeResult>(), 40);
     }
 }
