@@ -8,6 +8,7 @@ pub mod kept;
 pub mod measure;
 pub mod proved;
 pub mod rows;
+pub mod sample;
 pub mod shape;
 pub mod text;
 pub mod types;

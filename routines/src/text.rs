@@ -8,9 +8,8 @@ pub fn glyphs_text(stream: &[u8], answer: &ReadResult, records: &[Record], entri
     let mut text = Vec::new();
     for record in &records[..answer.records] {
         let Record { ordinal, page, h, v, font, size, place, len, index, gap } = *record;
-        let name = &stream[place as usize..][..len as usize];
         let numbers = format!("glyph {ordinal} {page} {h} {v} {font} {size} {gap} {index} {place} {len} ");
-        text.extend([numbers.as_bytes(), name, b"\n"].concat());
+        text.extend([numbers.as_bytes(), record.name(stream), b"\n"].concat());
     }
     for entry in &entries[..answer.entries] {
         let letters = [entry.command, entry.letter, entry.scheme].map(letter).concat();

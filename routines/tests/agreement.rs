@@ -4,6 +4,7 @@
 use routines::agree;
 use routines::measure::{say, Seen};
 use routines::proved::{self, Proved};
+use routines::sample::{sample_of, SAMPLE};
 use routines::{expected, shape, Colour, Entry, ReadResult, Record};
 use second::generate;
 use second::generate::random::Random;
@@ -14,10 +15,6 @@ const INPUTS: u64 = 100_000;
 
 /// The refusal numbers that the reader can give.
 const REFUSALS: [usize; 12] = [1, 2, 3, 4, 5, 6, 7, 8, 9, 10, 11, 13];
-
-/// P1 of 01.
-const SAMPLE: &[u8] =
-    b"x T ps\nx res 72000 1 1\nx init\np1\nx font 1 TR\nf1\ns10000\nV12000\nH72000\ntab\nwh2500\nC'e\nx stop\n";
 
 fn vector_cases() -> Vec<Case> {
     vectors::all_cases().expect("the vectors can be read")
@@ -66,7 +63,6 @@ fn lengths_at_the_limit() {
         let answer = answer.unwrap_or_else(|message| panic!("{message}"));
         (answer.refusal, answer.offset)
     };
-    let sample_of = |length| [SAMPLE, &vec![b'\n'; length - SAMPLE.len()]].concat();
     let short_of_list = |length| read(b"x T a\nx r 1 1 1\nx i\nx s\n", &generate::list::of_length(length));
     assert_eq!([LIST_LIMIT - 1, LIST_LIMIT, LIST_LIMIT + 1].map(short_of_list), [(0, 0), (0, 0), (1, 0)]);
     let stream = sample_of(STREAM_LIMIT + 1);

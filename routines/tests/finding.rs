@@ -4,6 +4,7 @@
 
 use routines::expected::ExpectedFinding;
 use routines::measure::{say, Seen};
+use routines::sample::{body, sample_of, SAMPLE};
 use routines::{agree, proved, shape, FindResult, Record, Search};
 use second::find::{read_query, QueryGlyph, GLYPH_LIMIT};
 use second::generate::outline::{
@@ -13,20 +14,12 @@ use second::generate::random::Random;
 use second::generate::search::search;
 use second::generate::{list, query};
 use second::refusal::{LIST_LIMIT, QUERY_LIMIT, STREAM_LIMIT};
-use second::vectors::{self, BODY_HEAD, BODY_TAIL, SAMPLE_LIST};
+use second::vectors::{self, BODY_HEAD, SAMPLE_LIST};
 
 const SEARCHES: u64 = 100_000;
 
 /// The refusal numbers that the finder can give: all of them.
 const REFUSALS: [usize; 13] = [1, 2, 3, 4, 5, 6, 7, 8, 9, 10, 11, 12, 13];
-
-/// P1 of 01.
-const SAMPLE: &[u8] =
-    b"x T ps\nx res 72000 1 1\nx init\np1\nx font 1 TR\nf1\ns10000\nV12000\nH72000\ntab\nwh2500\nC'e\nx stop\n";
-
-fn body(fragment: &[u8]) -> Vec<u8> {
-    [BODY_HEAD, fragment, BODY_TAIL].concat()
-}
 
 /// Searches with room for so many records and hits; both programs agree.
 fn found(stream: &[u8], list: &[u8], query: &[u8], room: [usize; 2]) -> FindResult {
@@ -146,7 +139,7 @@ fn lengths_at_the_limit() {
     assert_eq!(answer(b"", &longest, b"glyph=a\n"), (11, 0));
     assert_eq!(answer(b"", &too_long, b""), (1, 0));
 
-    let stream = [SAMPLE, &vec![b'\n'; STREAM_LIMIT + 1 - SAMPLE.len()]].concat();
+    let stream = sample_of(STREAM_LIMIT + 1);
     assert_eq!(answer(&stream[..STREAM_LIMIT], SAMPLE_LIST, b"glyph=a\n"), (0, 0));
     assert_eq!(answer(&stream[..STREAM_LIMIT], SAMPLE_LIST, b""), (12, 0));
     assert_eq!(answer(&stream, SAMPLE_LIST, b"glyph=a\n"), (1, 0));

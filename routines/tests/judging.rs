@@ -3,24 +3,17 @@
 
 use routines::agree;
 use routines::measure::say;
+use routines::sample::{assert_lengths_at_the_limit, body, SAMPLE};
 use routines::{proved, shape, JudgeResult, RespellResult, Search};
 use second::generate;
 use second::generate::random::Random;
-use second::refusal::{LIST_LIMIT, SPELLING_LIMIT, STREAM_LIMIT};
-use second::vectors::{self, BODY_HEAD, BODY_TAIL, SAMPLE_LIST};
+use second::refusal::SPELLING_LIMIT;
+use second::vectors::{self, BODY_HEAD, SAMPLE_LIST};
 
 const INPUTS: u64 = 100_000;
 
-/// P1 of 01.
-const SAMPLE: &[u8] =
-    b"x T ps\nx res 72000 1 1\nx init\np1\nx font 1 TR\nf1\ns10000\nV12000\nH72000\ntab\nwh2500\nC'e\nx stop\n";
-
 /// A query that is found wherever the glyph `a` stands.
 const QUERY: &[u8] = b"glyph=a\n";
-
-fn body(fragment: &[u8]) -> Vec<u8> {
-    [BODY_HEAD, fragment, BODY_TAIL].concat()
-}
 
 /// Judges; both programs agree.
 fn judged(stream: &[u8], list: &[u8]) -> JudgeResult {
@@ -141,13 +134,7 @@ fn lengths_at_the_limit() {
         let answer = judged(stream, list);
         (answer.refusal, answer.offset, answer.spelling)
     };
-    let stream = [SAMPLE, &vec![b'\n'; STREAM_LIMIT + 1 - SAMPLE.len()]].concat();
-    assert_eq!(answer(&stream[..STREAM_LIMIT], SAMPLE_LIST), (0, 0, 101));
-    assert_eq!(answer(&stream, SAMPLE_LIST), (1, 0, 0));
-    assert_eq!(answer(&stream, b""), (1, 0, 0));
-    assert_eq!(answer(&stream[..STREAM_LIMIT], b""), (2, 0, 0));
-    assert_eq!(answer(b"", &generate::list::of_length(LIST_LIMIT)), (11, 0, 0));
-    assert_eq!(answer(b"", &generate::list::of_length(LIST_LIMIT + 1)), (1, 0, 0));
+    assert_lengths_at_the_limit(answer, 101);
 }
 
 /// A spelling of just the limit has its length; a longer one, of one byte or of many, one more than

@@ -4,11 +4,12 @@
 
 use routines::kept::keeps_all;
 use routines::measure::{say, Seen};
+use routines::sample::{assert_lengths_at_the_limit, body, SAMPLE};
 use routines::{agree, expected, proved, shape, RespellResult};
 use second::generate;
 use second::generate::random::Random;
 use second::refusal::{Rooms, LIST_LIMIT, SPELLING_LIMIT, STREAM_LIMIT};
-use second::vectors::{self, BODY_HEAD, BODY_TAIL, SAMPLE_LIST, SPELT_HEAD};
+use second::vectors::{self, BODY_HEAD, SAMPLE_LIST, SPELT_HEAD};
 use std::collections::BTreeMap;
 
 const INPUTS: u64 = 100_000;
@@ -19,17 +20,11 @@ const REFUSALS: [usize; 12] = [1, 2, 3, 4, 5, 6, 7, 8, 9, 10, 11, 13];
 /// The header: a spelling has at most so many bytes for each of its stream.
 const MOST_OF_A_BYTE: usize = 16;
 
-/// P1 of 01, and its spelling.
-const SAMPLE: &[u8] =
-    b"x T ps\nx res 72000 1 1\nx init\np1\nx font 1 TR\nf1\ns10000\nV12000\nH72000\ntab\nwh2500\nC'e\nx stop\n";
+/// The spelling of P1.
 const SAMPLE_SPELT: &[u8] = b"x T ps\nx r 72000 1 1\nx i\np 1\nx f 1 TR\nf 1\ns 10000\nH 72000\nV 12000\nc a\nH 72440\nc b\nw\nH 75440\nC 'e\nx s\n";
 
 /// A list for words that move by their `u` alone.
 const LIST_OF_NOTHING: &[u8] = b"unitwidth=1000\nfont=TR\nbyte=97\nwidth=0\n";
-
-fn body(fragment: &[u8]) -> Vec<u8> {
-    [BODY_HEAD, fragment, BODY_TAIL].concat()
-}
 
 /// Rewrites with room for so many bytes; both programs agree.
 fn respelt(stream: &[u8], list: &[u8], room: usize) -> RespellResult {
@@ -196,14 +191,7 @@ fn lengths_at_the_limit() {
         let answer = respelt(stream, list, 200);
         (answer.refusal, answer.offset, answer.len)
     };
-    let length = SAMPLE_SPELT.len();
-    let stream = [SAMPLE, &vec![b'\n'; STREAM_LIMIT + 1 - SAMPLE.len()]].concat();
-    assert_eq!(answer(&stream[..STREAM_LIMIT], SAMPLE_LIST), (0, 0, length));
-    assert_eq!(answer(&stream, SAMPLE_LIST), (1, 0, 0));
-    assert_eq!(answer(&stream, b""), (1, 0, 0));
-    assert_eq!(answer(&stream[..STREAM_LIMIT], b""), (2, 0, 0));
-    assert_eq!(answer(b"", &generate::list::of_length(LIST_LIMIT)), (11, 0, 0));
-    assert_eq!(answer(b"", &generate::list::of_length(LIST_LIMIT + 1)), (1, 0, 0));
+    assert_lengths_at_the_limit(answer, SAMPLE_SPELT.len());
 }
 
 /// 1, 2, then the stream, then 13: with all against it, one put right after the other, and no room.
