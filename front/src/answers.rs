@@ -24,7 +24,8 @@ pub struct Rows {
 }
 
 impl Rows {
-    /// Runs a command's routine; `Err` where there is no memory for a row.
+    /// Runs a command's routine, unless the stream is refused already; `Err` where there is no memory for a
+    /// row. The query comes before the stream in the order of refusals, so the finder is asked even then.
     pub fn answer<'a>(
         &'a mut self,
         command: Command,
@@ -32,10 +33,11 @@ impl Rows {
     ) -> Result<Answer<'a>, TryReserveError> {
         let judged = library::judge(inputs.stream, inputs.widths);
         match command {
+            Command::Find => self.find(inputs, judged),
+            _ if judged.refusal != 0 => Ok(refused(judged.refusal, judged.offset, inputs)),
             Command::Glyphs => self.glyphs(inputs, judged),
             Command::Respell => self.respell(inputs, judged),
-            Command::Find => self.find(inputs, judged),
-            Command::Check => Ok(or_refused(judged.refusal, judged.offset, inputs, Answer::Judged(judged))),
+            Command::Check => Ok(Answer::Judged(judged)),
         }
     }
 
@@ -64,8 +66,6 @@ impl Rows {
         Ok(or_refused(end.refusal, end.offset, inputs, Answer::Spelling(&spelling[..end.len])))
     }
 
-    /// The query comes before the stream in the order of refusals, so the finder is asked even where
-    /// the stream was refused.
     fn find<'a>(
         &'a mut self,
         inputs: Inputs<'a>,
@@ -83,8 +83,12 @@ impl Rows {
 fn or_refused<'a>(number: u32, offset: usize, inputs: Inputs, answer: Answer<'a>) -> Answer<'a> {
     match number {
         0 => answer,
-        _ => Answer::Refused(Explained::of(Refusal { number, offset }, inputs)),
+        _ => refused(number, offset, inputs),
     }
+}
+
+fn refused<'a>(number: u32, offset: usize, inputs: Inputs) -> Answer<'a> {
+    Answer::Refused(Explained::of(Refusal { number, offset }, inputs))
 }
 
 /// The first `len` places of a row, which grows where it has fewer; the content is of no account.
