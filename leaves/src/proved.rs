@@ -1,4 +1,4 @@
-//! The proved code, through the static library of `crates/leafapi`.
+//! The proved code, through the static library of `crates/test_leaves`.
 
 use crate::Code;
 

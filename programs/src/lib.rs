@@ -54,11 +54,11 @@ pub struct Runner {
 }
 
 impl Runner {
-    /// The program of that name in `target/bin`, with the folder `target/programs/NAME-LABEL`.
+    /// The program `small_NAME` of `target/bin`, with the folder `target/programs/NAME-LABEL`.
     pub fn new(name: &str, label: &str) -> Runner {
         let target = Path::new(env!("CARGO_MANIFEST_DIR")).join("../target");
-        let program = target.join("bin").join(name);
-        assert!(program.is_file(), "target/bin/{name} is missing: run `rt check {name}` first");
+        let program = target.join("bin").join(format!("small_{name}"));
+        assert!(program.is_file(), "target/bin/small_{name} is missing: run `rt check small_{name}` first");
         let program = program.canonicalize().expect("the program has a path");
         let folder = target.join("programs").join(format!("{name}-{label}"));
         std::fs::create_dir_all(&folder).expect("a folder for the files can be made");

@@ -1,4 +1,4 @@
--- The answer as flat numbers, for C. Assumes nothing.
+-- The answer as flat numbers, for C.
 use Rattle.rules.specs.declared.Finding.{Finding}
 use Rattle.rules.specs.declared.Finding.the-variants as F
 use Rattle.capi_find.specs.declared.FindResult.{FindResult}

@@ -34,7 +34,7 @@ fn flat_finding(f: Finding) -> FindResult
     }
 }
 
-// The finder, `lookup::find`.
+// The finder, `find::find`.
 #[no_mangle]
 pub extern "C" fn mrkvandel_find(
     stream: &[u8],
@@ -45,6 +45,6 @@ pub extern "C" fn mrkvandel_find(
 ) -> FindResult
     ensures { λ r. ⌜ (r ≡ flatFinding (findingOf (findInto (length (now (records .entry))) (length (now (hits .entry))) (now (stream .entry)) (now (widths .entry)) (now (query .entry))))) × (now (records .exit) ≡ recordsFound (now (records .entry)) (findInto (length (now (records .entry))) (length (now (hits .entry))) (now (stream .entry)) (now (widths .entry)) (now (query .entry)))) × (now (hits .exit) ≡ hitsOver (now (hits .entry)) (findInto (length (now (records .entry))) (length (now (hits .entry))) (now (stream .entry)) (now (widths .entry)) (now (query .entry)))) ⌝ }
 {
-    let f = lookup::find(stream, widths, query, records, hits);
+    let f = find::find(stream, widths, query, records, hits);
     flat_finding(f)
 }

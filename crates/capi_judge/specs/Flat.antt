@@ -1,4 +1,4 @@
--- The answer as flat numbers, for C. Assumes nothing.
+-- The answer as flat numbers, for C.
 use Rattle.rules.specs.declared.Judging.{Judging}
 use Rattle.rules.specs.declared.Judging.the-variants as J
 use Rattle.capi_judge.specs.declared.JudgeResult.{JudgeResult}

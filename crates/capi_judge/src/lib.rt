@@ -43,11 +43,11 @@ fn flat_judging(j: Judging) -> JudgeResult
     }
 }
 
-// Judging, `judging::judge`.
+// Judging, `judge::judge`.
 #[no_mangle]
 pub extern "C" fn mrkvandel_judge(stream: &[u8], widths: &[u8]) -> JudgeResult
     ensures { λ r. ⌜ r ≡ flatJudging (judge (now (stream .entry)) (now (widths .entry))) ⌝ }
 {
-    let j = judging::judge(stream, widths);
+    let j = judge::judge(stream, widths);
     flat_judging(j)
 }

@@ -1,4 +1,4 @@
--- The answer as flat numbers, for C. Assumes nothing.
+-- The answer as flat numbers, for C.
 use lib.IntN.{pos}
 use Rattle.rules.specs.declared.Colour.{Colour}
 use Rattle.rules.specs.declared.ReadAnswer.{ReadAnswer}

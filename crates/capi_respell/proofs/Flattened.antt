@@ -1,4 +1,4 @@
--- The answer of each return of `flat_respelling`, and of the whole, in the form in which `search` applies it. Assumes nothing.
+-- The answer of each return of `flat_respelling`, and of the whole, in the form in which `search` applies it.
 use Prim.Native.Nat.{ℕ}
 use mathlib.Core.Path.{_≡_, sym, _∙_, ap}
 use borrow.Author.Needs.{needs}

@@ -1,4 +1,4 @@
--- The answer as flat numbers, for C. Assumes nothing.
+-- The answer as flat numbers, for C.
 use Rattle.rules.specs.declared.Respelling.{Respelling}
 use Rattle.rules.specs.declared.Respelling.the-variants as S
 use Rattle.capi_respell.specs.declared.RespellResult.{RespellResult}

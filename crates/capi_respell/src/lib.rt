@@ -30,11 +30,11 @@ fn flat_respelling(r: Respelling) -> RespellResult
     }
 }
 
-// The rewriter, `speller::respell`.
+// The rewriter, `respell::respell`.
 #[no_mangle]
 pub extern "C" fn mrkvandel_respell(stream: &[u8], widths: &[u8], out: &mut [u8]) -> RespellResult
     ensures { λ r. ⌜ (r ≡ flatRespelling (respellingOf (respellInto (length (now (out .entry))) (now (stream .entry)) (now (widths .entry))))) × (now (out .exit) ≡ bufferOver (now (out .entry)) (respellInto (length (now (out .entry))) (now (stream .entry)) (now (widths .entry)))) ⌝ }
 {
-    let r = speller::respell(stream, widths, out);
+    let r = respell::respell(stream, widths, out);
     flat_respelling(r)
 }

@@ -1,5 +1,5 @@
 -- Laws in the form in which `search` applies them at a need: each value that the code has at hand is a variable, with the equation
--- that a callee or a test gives of it as a premise. Assumes nothing.
+-- that a callee or a test gives of it as a premise.
 use Prim.Native.Nat.{ℕ, zero, suc, _+_, _-_, _≤_, _<_}
 use native.Mathlib.Omega.{arith}
 use mathlib.Core.Bool.{Bool, true, false}
@@ -15,7 +15,7 @@ use Rattle.query.specs.Turns.{glyphKind, gapKind, kindOf, expectedOf, en
 use Rattle.query.specs.declared.QueryAnswer.the-variants.{IllFormed, WellFormed}
 use Rattle.query.specs.declared.Kind.{Kind}
 use Rattle.query.specs.declared.Kind.the-variants.{Glyph, Gap, Wrong}
-use Rattle.lex.proofs.Lines.{key-short, key-on, key-off, rest-is}
+use Rattle.scan_lex.proofs.Lines.{key-short, key-on, key-off, rest-is}
 
 -- ---- a part
 module _ (s : List ℕ) (place len : ℕ) where

@@ -1,4 +1,4 @@
--- One line of the query further: what is still to come, put behind the glyphs read so far, stays the whole. Assumes nothing.
+-- One line of the query further: what is still to come, put behind the glyphs read so far, stays the whole.
 use Prim.Native.Nat.{ℕ, zero, suc, _+_, _-_, _≤_, _<_}
 use native.Mathlib.Omega.{arith}
 use mathlib.Core.Bool.{Bool, true, false, _&&_}
@@ -15,7 +15,7 @@ use mir.Val.{Fits}
 use Rattle.rules.specs.Bytes.{if_then_else_, bytes, same, isNotNewline}
 use Rattle.rules.specs.Widths.{linesFrom, behind}
 use Rattle.rules.specs.Find.{Expected, firstGlyph, gapGlyph, either, Wanted, Query, illFormed, wellFormed, withWanted, gapOf, mayPart, mayAsk, queryEnds, queryLine, queryLines, query}
-use Rattle.finding.specs.Occurs.{noWanted, wantedAt}
+use Rattle.laws_find.specs.Occurs.{noWanted, wantedAt}
 use Rattle.query.specs.Asked.{queryOf, gapNumber, partOf, LinesIn, LinesOf}
 use Rattle.query.specs.Turns.{kindBy, kindOf, expectedOf, endOf, before, Room, Going, Turned}
 use Rattle.query.specs.declared.QueryAnswer.{QueryAnswer}
@@ -26,8 +26,8 @@ use Rattle.query.specs.declared.State.{State}
 use Rattle.query.specs.declared.Flow.{Flow}
 use Rattle.query.specs.declared.Flow.the-variants.{On, Stop}
 use Rattle.laws.proofs.Cases.{on, and-left}
-use Rattle.lex.specs.At.{runEnd}
-use Rattle.lex.proofs.Lines.{line-at, line-from, lines-none, behind-some, drop-take}
+use Rattle.scan_lex.specs.At.{runEnd}
+use Rattle.scan_lex.proofs.Lines.{line-at, line-from, lines-none, behind-some, drop-take}
 
 -- ---- glyphs before what the lines behind them say
 before-ill : (ws : List Wanted) (at : ℕ) → before ws (illFormed at) ≡ illFormed at

@@ -1,4 +1,4 @@
--- A part of the caller's bytes. Assumes nothing.
+-- A part of the caller's bytes.
 use Prim.Native.Nat.{ℕ, _+_}
 use mathlib.Core.List.{List, []}
 use lib.Dec.{leb}

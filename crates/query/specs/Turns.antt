@@ -1,4 +1,4 @@
--- The query line by line, as the code goes over it. Assumes nothing.
+-- The query line by line, as the code goes over it.
 use Prim.Native.Nat.{ℕ, zero, suc, _≤_, _<_}
 use mathlib.Core.Bool.{_&&_}
 use mathlib.Core.List.{List, [], _∷_}

@@ -54,7 +54,7 @@ fn glyph_kind(name: &[u8], glyphs: usize) -> Kind
     ensures { λ r. ⌜ r ≡ glyphKind glyphs (now (name .entry)) ⌝ }
 {
     if glyphs < 64 {
-        if lex::is_string(name) {
+        if scan_lex::is_string(name) {
             return Kind::Glyph;
         }
     }
@@ -66,7 +66,7 @@ fn gap_kind(t: &[u8], due: u32) -> Kind
     ensures { λ r. ⌜ r ≡ gapKind due (now (t .entry)) ⌝ }
 {
     if due == 1 {
-        if lex::same_bytes(t, b"gap=any") {
+        if scan_lex::same_bytes(t, b"gap=any") {
             return Kind::Gap;
         }
     }
@@ -80,7 +80,7 @@ fn kind_of(t: &[u8], due: u32, glyphs: usize) -> Kind
     if t.len() < 6 {
         return gap_kind(t, due);
     }
-    if lex::same_bytes(b"glyph=", &t[0..6]) {
+    if scan_lex::same_bytes(b"glyph=", &t[0..6]) {
         glyph_kind(&t[6..], glyphs)
     } else {
         gap_kind(t, due)
@@ -114,7 +114,7 @@ fn turn(q: &[u8], places: &mut [u32], lens: &mut [u32], gaps: &mut [u32], st: St
 {
     let at = st.at;
     let n = st.glyphs;
-    let end = lex::line_end(q, at);
+    let end = scan_lex::line_end(q, at);
     if q.len() <= end {
         return Flow::Stop;
     }

@@ -1,4 +1,4 @@
--- With the scratch row of a sound list a pass begins as the rules do. Assumes nothing.
+-- With the scratch row of a sound list a pass begins as the rules do.
 use Prim.Native.Nat.{ℕ, zero, suc, _+_, _*_, _-_, _<_, _≤_}
 use native.Mathlib.Omega.{arith}
 use mathlib.Core.Bool.{Bool, true, false}
@@ -15,13 +15,13 @@ use Rattle.widths.specs.Slots.{slotIn}
 use Rattle.widths.specs.Table.{TableOf, NamesOf, slotOf, entryFor}
 use Rattle.widths.proofs.Lookups.{slot-names, slot-le, width-table}
 use Rattle.widths.proofs.Bounds.{sound-few}
-use Rattle.reading.proofs.Keeps.{Held}
-use Rattle.reader.specs.Words.{entryAt}
-use Rattle.reader.specs.Turns.{mountAt}
-use Rattle.reader.proofs.Words.{entryFor as entryOfWidth}
-use Rattle.reader.proofs.Live.{Live, Mounted, markOf}
-use Rattle.turns.specs.Ready.{findIn, Scratch}
-use Rattle.plan.specs.Plan.{ScratchOf, Unmounted, startEnv}
+use Rattle.laws_read.proofs.Keeps.{Held}
+use Rattle.read_model.specs.Words.{entryAt}
+use Rattle.read_model.specs.Turns.{mountAt}
+use Rattle.read_model.proofs.Words.{entryFor as entryOfWidth}
+use Rattle.read_model.proofs.Live.{Live, Mounted, markOf}
+use Rattle.read_turn.specs.Ready.{findIn, Scratch}
+use Rattle.read_setup.specs.Setup.{ScratchOf, Unmounted, startEnv}
 
 -- no position holds a name
 abbrev pub noMounts : List (List ℕ)

@@ -1,4 +1,4 @@
--- Two passes answer what the rules answer: what each of them asks, and what is answered at the end. Assumes nothing.
+-- Two passes answer what the rules answer: what each of them asks, and what is answered at the end.
 use Prim.Native.Nat.{ℕ, zero, suc, _+_, _*_, _-_, _<_, _≤_}
 use native.Mathlib.Omega.{arith}
 use mathlib.Core.Bool.{Bool, true, false, _||_}
@@ -17,24 +17,24 @@ use Rattle.rules.specs.Widths.{Widths, WidthList, unsound, sound, widthList}
 use Rattle.rules.specs.Record.{GlyphRow, ItemRow, Answer, refuse, answer, follow, recordOf, entryOf}
 use Rattle.rules.specs.Answers.{streamMost, isOver, read, roomFor, readInto, readWith, readingOf, recordsOver, entriesOver}
 use Rattle.laws.proofs.Cases.{on, no as impossible, if-both}
-use Rattle.scanned.proofs.Walk.{from}
+use Rattle.laws_scan.proofs.Walk.{from}
 use Rattle.widths.proofs.Bounds.{sound-unit, sound-few}
-use Rattle.reader.specs.declared.State.{State}
-use Rattle.reader.specs.Environment.{envOf}
-use Rattle.reader.specs.Fits.{EnvFits}
-use Rattle.reader.specs.Turns.{fillsRecords, fillsEntries}
-use Rattle.reader.specs.Passes.{Pass, passFor, passOf}
-use Rattle.reader.proofs.Passes.{Going, Room, Refused, Accepted, Ended, pass-ends, judging-keeps, length-map}
-use Rattle.reader.proofs.Rows.{over-is}
-use Rattle.reader.proofs.Live.{Live}
-use Rattle.turns.specs.Ready.{findIn, Scratch, Ready}
-use Rattle.passes.specs.Sound.{Sound}
-use Rattle.passes.proofs.Known.{Known, pass-known}
-use Rattle.plan.specs.Plan.{ScratchOf, Unmounted, startEnv, beginOf, refusedAt, StartedWith, StartedOr, Started, againOf, answerOf, AreBytes}
+use Rattle.read_model.specs.declared.State.{State}
+use Rattle.read_model.specs.Environment.{envOf}
+use Rattle.read_model.specs.Fits.{EnvFits}
+use Rattle.read_model.specs.Turns.{fillsRecords, fillsEntries}
+use Rattle.read_model.specs.Passes.{ReadPass, readPassFor, readPassOf}
+use Rattle.read_model.proofs.Passes.{Going, Room, Refused, Accepted, Ended, pass-ends, judging-keeps, length-map}
+use Rattle.read_model.proofs.Rows.{over-is}
+use Rattle.read_model.proofs.Live.{Live}
+use Rattle.read_turn.specs.Ready.{findIn, Scratch, Ready}
+use Rattle.read_pass.specs.Ready.{PassReady}
+use Rattle.read_pass.proofs.Known.{Known, pass-known}
+use Rattle.read_setup.specs.Setup.{ScratchOf, Unmounted, startEnv, beginOf, refusedAt, StartedWith, StartedOr, Started, againOf, readAnswerOf, AreBytes}
 use Rattle.read.proofs.Scratched.{noMounts, start-live, scratch-again}
 
 -- a pass that begins at a state, with a scratch row and both rows
-abbrev pub passFrom : State → List ℕ → List Record → List Entry → Pass
+abbrev pub passFrom : State → List ℕ → List Record → List Entry → ReadPass
 passFrom st ws rs es = record { state = st; scratch = ws; records = rs; entries = es }
 
 -- ---- what a pass asks where it begins
@@ -42,7 +42,7 @@ passFrom st ws rs es = record { state = st; scratch = ws; records = rs; entries 
 start-fits : (at : ℕ) → EnvFits at startEnv
 start-fits at = record { h-some = omega arith; h-most = omega arith; v-some = omega arith; v-most = omega arith; number = omega arith; ordinal = omega arith; size = omega arith; quantum-some = omega arith; quantum-most = omega arith; font = omega arith }
 
-pub refused-sound : (n : ℕ) (ws : List ℕ) (g e number offset : ℕ) → Scratch ws → Sound n ws g e (refusedAt number offset)
+pub refused-sound : (n : ℕ) (ws : List ℕ) (g e number offset : ℕ) → Scratch ws → PassReady n ws g e (refusedAt number offset)
 refused-sound n ws g e number offset k = record {
   scratch = k;
   ready = λ z. absurd (let y : 0 < 0 = z in omega arith);
@@ -59,7 +59,7 @@ not-over s list h = ltb-false streamMost (length s) (on (isOver streamMost s) (�
 
 -- a pass that fills nothing, with the scratch row of a sound list
 pub begin-sound : (s list : List ℕ) (w : Widths) → widthList list ≡ sound w → length s ≤ 16777216 → (ws : List ℕ) → ScratchOf list (w .fonts) ws → (g e rmax emax : ℕ)
-    → Sound (length s) ws g e (beginOf (length s) rmax emax (length (w .fonts)) (w .unitwidth) 0)
+    → PassReady (length s) ws g e (beginOf (length s) rmax emax (length (w .fonts)) (w .unitwidth) 0)
 begin-sound s list w q short ws k g e rmax emax = record {
   scratch = k .scratch;
   ready = begin-ready (length s) rmax emax (length (w .fonts)) (w .unitwidth) 0 short (sound-few list w q) (sound-unit list w q .0) (sound-unit list w q .1);
@@ -70,15 +70,15 @@ begin-sound s list w q short ws k g e rmax emax = record {
 
 -- what the judging pass asks
 module _ (s list : List ℕ) (a : State) (ws : List ℕ) (g e : ℕ) where
-  with-sound : (isOver streamMost s || isOver 65_536 list) ≡ false → (x : WidthList) → widthList list ≡ x → StartedWith (length s) list a ws x → Sound (length s) ws g e a
-  with-sound z (unsound at) q h = subst (Sound (length s) ws g e) (sym (h .0)) (refused-sound (length s) ws g e 2 at (h .1))
-  with-sound z (sound w) q h = subst (Sound (length s) ws g e) (sym (h .0)) (begin-sound s list w q (not-over s list z) ws (h .1) g e (length s) (length s))
+  with-sound : (isOver streamMost s || isOver 65_536 list) ≡ false → (x : WidthList) → widthList list ≡ x → StartedWith (length s) list a ws x → PassReady (length s) ws g e a
+  with-sound z (unsound at) q h = subst (PassReady (length s) ws g e) (sym (h .0)) (refused-sound (length s) ws g e 2 at (h .1))
+  with-sound z (sound w) q h = subst (PassReady (length s) ws g e) (sym (h .0)) (begin-sound s list w q (not-over s list z) ws (h .1) g e (length s) (length s))
 
-  or-sound : (b : Bool) → (isOver streamMost s || isOver 65_536 list) ≡ b → StartedOr b s list a ws → Sound (length s) ws g e a
-  or-sound true z h = subst (Sound (length s) ws g e) (sym (h .0)) (refused-sound (length s) ws g e 1 0 (h .1))
+  or-sound : (b : Bool) → (isOver streamMost s || isOver 65_536 list) ≡ b → StartedOr b s list a ws → PassReady (length s) ws g e a
+  or-sound true z h = subst (PassReady (length s) ws g e) (sym (h .0)) (refused-sound (length s) ws g e 1 0 (h .1))
   or-sound false z h = with-sound z (widthList list) refl h
 
-pub first-sound : (s list : List ℕ) (a : State) (ws : List ℕ) (g e : ℕ) → Started s list a ws → Sound (length s) ws g e a
+pub first-sound : (s list : List ℕ) (a : State) (ws : List ℕ) (g e : ℕ) → Started s list a ws → PassReady (length s) ws g e a
 first-sound s list a ws g e h = or-sound s list a ws g e (isOver streamMost s || isOver 65_536 list) refl h
 
 -- ---- refused before the stream is read, or read
@@ -113,8 +113,8 @@ module _ (s list : List ℕ) (a : State) (ws : List ℕ) where
   started-case h = or-case (isOver streamMost s || isOver 65_536 list) refl h
 
 -- a pass that does not go on
-pub halted-pass : (find : List ℕ → ℕ) (s : List ℕ) (p : Pass) → p .state .left ≡ 0 → passOf find s p ≡ p
-unfolding passFor
+pub halted-pass : (find : List ℕ → ℕ) (s : List ℕ) (p : ReadPass) → p .state .left ≡ 0 → readPassOf find s p ≡ p
+unfolding readPassFor
 halted-pass find s p h = rw h
 
 or-true : (a b : Bool) → b ≡ true → (a || b) ≡ false → true ≡ false
@@ -124,14 +124,14 @@ or-true false b e h = sym e ∙ h
 -- a pass that begins with the scratch row of a sound list ends as the rules say
 pub run-ends : (s list : List ℕ) (w : Widths) → widthList list ≡ sound w → (ws : List ℕ) → ScratchOf list (w .fonts) ws → AreBytes s → (g e fill : ℕ) (rs : List Record) (es : List Entry)
     → Room (length s) (follow w start (commands 0 0 s)) (beginOf (length s) g e (length (w .fonts)) (w .unitwidth) fill)
-    → Ended (follow w start (commands 0 0 s)) (passFrom (beginOf (length s) g e (length (w .fonts)) (w .unitwidth) fill) ws rs es) (passOf (findIn list (length (w .fonts)) ws) s (passFrom (beginOf (length s) g e (length (w .fonts)) (w .unitwidth) fill) ws rs es))
+    → Ended (follow w start (commands 0 0 s)) (passFrom (beginOf (length s) g e (length (w .fonts)) (w .unitwidth) fill) ws rs es) (readPassOf (findIn list (length (w .fonts)) ws) s (passFrom (beginOf (length s) g e (length (w .fonts)) (w .unitwidth) fill) ws rs es))
 run-ends s list w q ws k y g e fill rs es r =
     pass-ends w (findIn list (length (w .fonts)) ws) s (y .each) (length s) noMounts (passFrom (beginOf (length s) g e (length (w .fonts)) (w .unitwidth) fill) ws rs es)
     (record { within = omega arith; left = omega arith; clear = refl }) (start-live list w q ws k) (omega arith) r
 
 -- ---- the first pass
 
-module _ (s list : List ℕ) (rs : List Record) (es : List Entry) (a : State) (ws₁ : List ℕ) (h : Started s list a ws₁) (p : Pass) (is : p ≡ passOf (findIn list (a .fonts) ws₁) s (passFrom a ws₁ rs es)) where
+module _ (s list : List ℕ) (rs : List Record) (es : List Entry) (a : State) (ws₁ : List ℕ) (h : Started s list a ws₁) (p : ReadPass) (is : p ≡ readPassOf (findIn list (a .fonts) ws₁) s (passFrom a ws₁ rs es)) where
   judged : Known list s (passFrom a ws₁ rs es) 0 p
   judged = subst (Known list s (passFrom a ws₁ rs es) 0) (sym is) (pass-known list s (passFrom a ws₁ rs es) (first-sound s list a ws₁ (length rs) (length es) h))
 
@@ -161,8 +161,8 @@ module _ (s list : List ℕ) (rs : List Record) (es : List Entry) (a : State) (w
     abbrev pub begun : State
     begun = beginOf (length s) (length s) (length s) (length (o .widths .fonts)) (o .widths .unitwidth) 0
 
-    on-pass : p ≡ passOf (findIn list (length (o .widths .fonts)) ws₁) s (passFrom begun ws₁ rs es)
-    on-pass = is ∙ ap (λ (z : State). passOf (findIn list (z .fonts) ws₁) s (passFrom z ws₁ rs es)) (o .state)
+    on-pass : p ≡ readPassOf (findIn list (length (o .widths .fonts)) ws₁) s (passFrom begun ws₁ rs es)
+    on-pass = is ∙ ap (λ (z : State). readPassOf (findIn list (z .fonts) ws₁) s (passFrom z ws₁ rs es)) (o .state)
 
     pub on-ends : Ended said (passFrom begun ws₁ rs es) p
     on-ends =
@@ -170,10 +170,10 @@ module _ (s list : List ℕ) (rs : List Record) (es : List Entry) (a : State) (w
         (run-ends s list (o .widths) (o .list-is) ws₁ (o .scratch) y (length s) (length s) 0 rs es (inl (omega arith, omega arith, omega arith, omega arith)))
 
     pub kept-records : p .records ≡ rs
-    kept-records = ap (λ (z : Pass). z .records) on-pass ∙ judging-keeps (findIn list (length (o .widths .fonts)) ws₁) s (length s) (passFrom begun ws₁ rs es) refl .0
+    kept-records = ap (λ (z : ReadPass). z .records) on-pass ∙ judging-keeps (findIn list (length (o .widths .fonts)) ws₁) s (length s) (passFrom begun ws₁ rs es) refl .0
 
     kept-entries : p .entries ≡ es
-    kept-entries = ap (λ (z : Pass). z .entries) on-pass ∙ judging-keeps (findIn list (length (o .widths .fonts)) ws₁) s (length s) (passFrom begun ws₁ rs es) refl .1
+    kept-entries = ap (λ (z : ReadPass). z .entries) on-pass ∙ judging-keeps (findIn list (length (o .widths .fonts)) ws₁) s (length s) (passFrom begun ws₁ rs es) refl .1
 
     -- it accepted
     module _ (xs : List GlyphRow) (zs : List ItemRow) (d : Env) (said-is : said ≡ answer xs zs d) (g : Accepted xs zs d (passFrom begun ws₁ rs es) p) where
@@ -194,9 +194,9 @@ module _ (s list : List ℕ) (rs : List Record) (es : List Entry) (a : State) (w
             let v : p .state .unitwidth ≡ o .widths .unitwidth = judged .unit ∙ ap (λ (z : State). z .unitwidth) (o .state) in
             next ∙ rw (k, v)
 
-        pub refilled : length xs ≤ length rs → length zs ≤ emax → (q : Pass) → q ≡ passOf (findIn list (c .fonts) ws₂) s (passFrom c ws₂ (p .records) (p .entries)) → Accepted xs zs d (passFrom refill ws₂ (p .records) (p .entries)) q
+        pub refilled : length xs ≤ length rs → length zs ≤ emax → (q : ReadPass) → q ≡ readPassOf (findIn list (c .fonts) ws₂) s (passFrom c ws₂ (p .records) (p .entries)) → Accepted xs zs d (passFrom refill ws₂ (p .records) (p .entries)) q
         refilled records-fit entries-fit q ends =
-            let b : q ≡ passOf (findIn list (length (o .widths .fonts)) ws₂) s (passFrom refill ws₂ (p .records) (p .entries)) = ends ∙ ap (λ (z : State). passOf (findIn list (z .fonts) ws₂) s (passFrom z ws₂ (p .records) (p .entries))) refill-is in
+            let b : q ≡ readPassOf (findIn list (length (o .widths .fonts)) ws₂) s (passFrom refill ws₂ (p .records) (p .entries)) = ends ∙ ap (λ (z : State). readPassOf (findIn list (z .fonts) ws₂) s (passFrom z ws₂ (p .records) (p .entries))) refill-is in
             let k : ScratchOf list (o .widths .fonts) ws₂ = scratch-again list (o .widths .fonts) ws₁ (p .scratch) ws₂ (o .scratch) (judged .kept) u (sound-few list (o .widths) (o .list-is)) in
             let e : Ended said (passFrom refill ws₂ (p .records) (p .entries)) q =
             subst (Ended said (passFrom refill ws₂ (p .records) (p .entries))) (sym b)
@@ -206,9 +206,9 @@ module _ (s list : List ℕ) (rs : List Record) (es : List Entry) (a : State) (w
 
   -- what a pass that fills asks, where it fills rows of these lengths
   pub filling-sound : (emax fill : ℕ) → (fillsEntries fill ≡ true → emax ≡ length (p .entries)) → (ws₂ : List ℕ) → Unmounted (p .scratch) ws₂ → On s list a ws₁
-      → Sound (length s) ws₂ (length (p .records)) (length (p .entries)) (againOf (p .state) (length s) (length rs) emax fill)
+      → PassReady (length s) ws₂ (length (p .records)) (length (p .entries)) (againOf (p .state) (length s) (length rs) emax fill)
   filling-sound emax fill whole ws₂ u o =
-      let P : State → Type 0 = Sound (length s) ws₂ (length (p .records)) (length (p .entries)) in
+      let P : State → Type 0 = PassReady (length s) ws₂ (length (p .records)) (length (p .entries)) in
       let k : p .state .fonts ≡ length (o .widths .fonts) = judged .fonts ∙ ap (λ (z : State). z .fonts) (o .state) in
       let v : p .state .unitwidth ≡ o .widths .unitwidth = judged .unit ∙ ap (λ (z : State). z .unitwidth) (o .state) in
       if-both P (eqb (p .state .refusal) 0) _ (refusedAt (p .state .refusal) (p .state .at))
@@ -226,38 +226,38 @@ module _ (s list : List ℕ) (rs : List Record) (es : List Entry) (a : State) (w
 
   module _ (c : State) (next : c ≡ againOf (p .state) (length s) (length rs) (length es) 1) (ws₂ : List ℕ) (u : Unmounted (p .scratch) ws₂) where
     -- what the filling pass asks
-    on-sound : On s list a ws₁ → Sound (length s) ws₂ (length (p .records)) (length (p .entries)) c
-    on-sound o = subst (Sound (length s) ws₂ (length (p .records)) (length (p .entries))) (sym next) (filling-sound (length es) 1 (λ z. sym judged-entries) ws₂ u o)
+    on-sound : On s list a ws₁ → PassReady (length s) ws₂ (length (p .records)) (length (p .entries)) c
+    on-sound o = subst (PassReady (length s) ws₂ (length (p .records)) (length (p .entries))) (sym next) (filling-sound (length es) 1 (λ z. sym judged-entries) ws₂ u o)
 
-    case-sound : Off s list a ⊎ On s list a ws₁ → Sound (length s) ws₂ (length (p .records)) (length (p .entries)) c
-    case-sound (inl o) = subst (Sound (length s) ws₂ (length (p .records)) (length (p .entries))) (sym (next ∙ off-next o)) (refused-sound (length s) ws₂ (length (p .records)) (length (p .entries)) (o .number) (o .offset) (u .scratch))
+    case-sound : Off s list a ⊎ On s list a ws₁ → PassReady (length s) ws₂ (length (p .records)) (length (p .entries)) c
+    case-sound (inl o) = subst (PassReady (length s) ws₂ (length (p .records)) (length (p .entries))) (sym (next ∙ off-next o)) (refused-sound (length s) ws₂ (length (p .records)) (length (p .entries)) (o .number) (o .offset) (u .scratch))
     case-sound (inr o) = on-sound o
 
-    pub again-sound : Sound (length s) ws₂ (length (p .records)) (length (p .entries)) c
+    pub again-sound : PassReady (length s) ws₂ (length (p .records)) (length (p .entries)) c
     again-sound = case-sound (started-case s list a ws₁ h)
 
-    module _ (q : Pass) (ends : q ≡ passOf (findIn list (c .fonts) ws₂) s (passFrom c ws₂ (p .records) (p .entries))) where
+    module _ (q : ReadPass) (ends : q ≡ readPassOf (findIn list (c .fonts) ws₂) s (passFrom c ws₂ (p .records) (p .entries))) where
       -- what the answer asks
       pub last-fits : EnvFits (q .state .at) (q .state .env)
-      last-fits = subst (λ (z : Pass). EnvFits (z .state .at) (z .state .env)) (sym ends) (pass-known list s (passFrom c ws₂ (p .records) (p .entries)) again-sound .fits)
+      last-fits = subst (λ (z : ReadPass). EnvFits (z .state .at) (z .state .env)) (sym ends) (pass-known list s (passFrom c ws₂ (p .records) (p .entries)) again-sound .fits)
 
       abbrev told : Answer
       told = readInto (length rs) (length es) s list
 
       abbrev Answered : Answer → Type 0
-      Answered x = (answerOf (q .state) ≡ readingOf x) × (q .records ≡ recordsOver rs x) × (q .entries ≡ entriesOver es x)
+      Answered x = (readAnswerOf (q .state) ≡ readingOf x) × (q .records ≡ recordsOver rs x) × (q .entries ≡ entriesOver es x)
 
       -- a refusal leaves the rows
       refused-as : (k o : ℕ) → c ≡ refusedAt k o → 0 < k → p .records ≡ rs → p .entries ≡ es → Answered (refuse k o)
       refused-as k o e z r x =
           let b : q ≡ passFrom c ws₂ (p .records) (p .entries) = ends ∙ halted-pass (findIn list (c .fonts) ws₂) s (passFrom c ws₂ (p .records) (p .entries)) (ap (λ (i : State). i .left) e) in
-          (rw (b, e, ne-eqb k 0 (λ i. omega arith)), ap (λ (i : Pass). i .records) b ∙ r, ap (λ (i : Pass). i .entries) b ∙ x)
+          (rw (b, e, ne-eqb k 0 (λ i. omega arith)), ap (λ (i : ReadPass). i .records) b ∙ r, ap (λ (i : ReadPass). i .entries) b ∙ x)
 
       off-reads : Off s list a → Answered told
       unfolding readInto
       off-reads o =
           let b : p ≡ passFrom a ws₁ rs es = off-pass o in
-          rw (o .answered) (refused-as (o .number) (o .offset) (next ∙ off-next o) (o .some) (ap (λ (i : Pass). i .records) b) (ap (λ (i : Pass). i .entries) b))
+          rw (o .answered) (refused-as (o .number) (o .offset) (next ∙ off-next o) (o .some) (ap (λ (i : ReadPass). i .records) b) (ap (λ (i : ReadPass). i .entries) b))
 
       module _ (y : AreBytes s) (o : On s list a ws₁) where
         -- the judging pass ended with a refusal
@@ -312,5 +312,5 @@ module _ (s list : List ℕ) (rs : List Record) (es : List Entry) (a : State) (w
       case-reads y (inr o) = on-told y o
 
       -- and what is answered
-      pub reads-as : AreBytes s → (answerOf (q .state) ≡ readingOf told) × (q .records ≡ recordsOver rs told) × (q .entries ≡ entriesOver es told)
+      pub reads-as : AreBytes s → (readAnswerOf (q .state) ≡ readingOf told) × (q .records ≡ recordsOver rs told) × (q .entries ≡ entriesOver es told)
       reads-as y = case-reads y (started-case s list a ws₁ h)

@@ -6,7 +6,7 @@ use rules::Record;
 ghost use mathlib.Core.Path.{_≡_};
 ghost use lib.ListN.{length};
 ghost use Rattle.rules.specs.Answers.{readInto, readingOf, recordsOver, entriesOver};
-ghost use Rattle.turns.specs.Ready.{Scratch};
+ghost use Rattle.read_turn.specs.Ready.{Scratch};
 
 pub fn room() -> [u32; 8768]
     ensures { λ r. ⌜ Scratch r ⌝ }
@@ -19,9 +19,9 @@ pub fn read(s: &[u8], list: &[u8], records: &mut [Record], entries: &mut [Entry]
     ensures { λ r. ⌜ (r ≡ readingOf (readInto (length (now (records .entry))) (length (now (entries .entry))) (now (s .entry)) (now (list .entry)))) × (now (records .exit) ≡ recordsOver (now (records .entry)) (readInto (length (now (records .entry))) (length (now (entries .entry))) (now (s .entry)) (now (list .entry)))) × (now (entries .exit) ≡ entriesOver (now (entries .entry)) (readInto (length (now (records .entry))) (length (now (entries .entry))) (now (s .entry)) (now (list .entry)))) ⌝ }
 {
     let mut ws = room();
-    let a = plan::start(&mut ws, s, list);
-    let b = passes::pass(records, entries, &mut ws, s, list, a);
-    let c = plan::again(&mut ws, b, s.len(), records.len(), entries.len(), 1);
-    let d = passes::pass(records, entries, &mut ws, s, list, c);
-    plan::answer(d)
+    let a = read_setup::start(&mut ws, s, list);
+    let b = read_pass::pass(records, entries, &mut ws, s, list, a);
+    let c = read_setup::again(&mut ws, b, s.len(), records.len(), entries.len(), 1);
+    let d = read_pass::pass(records, entries, &mut ws, s, list, c);
+    read_setup::answer(d)
 }

@@ -1,4 +1,4 @@
--- The letter of a command decides. Assumes nothing.
+-- The letter of a command decides.
 use Prim.Native.Nat.{ℕ, _+_, _≤_, _<_}
 use native.Mathlib.Omega.{arith}
 use native.Mathlib.Nat.{add-zero}
@@ -11,9 +11,9 @@ use borrow.Author.Needs.{needs}
 use borrow.Author.Tests.{ne-eqb, le-leb, lt-leb}
 use Rattle.rules.specs.Bytes.{isDigit}
 use Rattle.rules.specs.Scan.{letter}
-use Rattle.command.specs.declared.Command.{Command}
-use Rattle.command.specs.declared.Command.the-variants as C
-use Rattle.command.specs.View.{letterAt, commandAt}
+use Rattle.scan_command.specs.declared.Command.{Command}
+use Rattle.scan_command.specs.declared.Command.the-variants as C
+use Rattle.scan_command.specs.View.{letterAt, commandAt}
 
 -- the command at a place is that of its letter
 pub by-letter : (s : List ℕ) (at k : ℕ) (r : Command) → getD s at 0 ≡ k → r ≡ letterAt k s at → r ≡ commandAt s at

@@ -1,4 +1,4 @@
--- The limits of what a sound width list says, for whoever computes with it. Assumes nothing.
+-- The limits of what a sound width list says, for whoever computes with it.
 use Prim.Native.Nat.{ℕ, _≤_}
 use mathlib.Core.Path.{_≡_, refl, subst}
 use mathlib.Core.Bool.{_&&_}

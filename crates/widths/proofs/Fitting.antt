@@ -1,4 +1,4 @@
--- The advance fits 64 bits. Assumes nothing.
+-- The advance fits 64 bits.
 use Prim.Native.Nat.{ℕ, _+_, _*_, _/_, _≤_, _<_}
 use native.Mathlib.Nat.{mul-le-mul, mul-le-mul-right, mul-pos, mul-div-le}
 use native.Mathlib.Omega.{arith}

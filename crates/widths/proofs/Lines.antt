@@ -1,4 +1,4 @@
--- One line of each kind: what the code does is what the rules say. Assumes nothing.
+-- One line of each kind: what the code does is what the rules say.
 use Prim.Native.Nat.{ℕ, suc, _+_, _-_, _*_, _≤_, _<_, min}
 use mathlib.Core.Path.{_≡_, refl, sym, ap, _∙_, subst}
 use mathlib.Core.Bool.{Bool, true, false, _&&_}
@@ -15,7 +15,7 @@ use Rattle.laws.proofs.Cases.{on, and-left, and-right}
 use Rattle.widths.specs.declared.State.{State}
 use Rattle.widths.specs.Slots.{partOf, slotIn}
 use Rattle.widths.specs.Table.{TableOf}
-use Rattle.widths.specs.Reading.{cut, lowIn, lowOf, canFollow, isFresh, Holds, After, Judged, Stored, Told, Room, Cleared, unitSays, byteSays, fontSays, widthSays}
+use Rattle.widths.specs.Reading.{cut, lowIn, lowOf, canFollow, isFresh, Holds, After, LineJudged, Stored, Told, Room, Cleared, unitSays, byteSays, fontSays, widthSays}
 use Rattle.widths.proofs.Lookups.{slot-names, new-slot}
 use Rattle.widths.proofs.Rows.{table-add, names-add, table-new, names-new}
 
@@ -36,13 +36,13 @@ unit-good : (o : Option ℕ) (n : ℕ) → n ≡ cut o → 1 ≤ n → n ≤ 100
 unit-good o n e h l = rw (cut-some o n e l, le-leb 1 n h, le-leb n 100000 l)
 
 module _ (t : List ℕ) (st : State) (next n : ℕ) (e : n ≡ cut (numbered (behind (bytes "unitwidth=") t))) where
-  pub unit-small : (r : State) → n < 1 → r .due ≡ 3 → Judged next st r (unitSays t)
+  pub unit-small : (r : State) → n < 1 → r .due ≡ 3 → LineJudged next st r (unitSays t)
   unit-small r h q = record { told = λ list T P L w d v. rw (unit-low _ n e h) q }
 
-  pub unit-large : (r : State) → 100000 < n → r .due ≡ 3 → Judged next st r (unitSays t)
+  pub unit-large : (r : State) → 100000 < n → r .due ≡ 3 → LineJudged next st r (unitSays t)
   unit-large r h q = record { told = λ list T P L w d v. rw (unit-high _ n e h) q }
 
-  pub unit-right : 1 ≤ n → n ≤ 100000 → Judged next st (record { due = 1; unitwidth = n; fonts = 0; low = 0; byte = 0; at = next }) (unitSays t)
+  pub unit-right : 1 ≤ n → n ≤ 100000 → LineJudged next st (record { due = 1; unitwidth = n; fonts = 0; low = 0; byte = 0; at = next }) (unitSays t)
   unit-right h l = record {
     told = λ list T P L w d v.
         rw (unit-good _ n e h l) (
@@ -90,10 +90,10 @@ byte-off w (some n) b e f =
     rw g
 
 module _ (t : List ℕ) (st : State) (next b : ℕ) (f : Bool) (e : b ≡ cut (numbered (behind (bytes "byte=") t))) (q : f ≡ canFollow b (st .fonts) (st .low)) where
-  pub byte-wrong : (r : State) → f ≡ false → r .due ≡ 3 → Judged next st r (byteSays t)
+  pub byte-wrong : (r : State) → f ≡ false → r .due ≡ 3 → LineJudged next st r (byteSays t)
   byte-wrong r g k = record { told = λ list T P L w d v. rw (byte-off w _ b e (rw (v .fonts, v .low) at (sym q ∙ g))) k }
 
-  pub byte-right : f ≡ true → Judged next st (record { due = 2; unitwidth = st .unitwidth; fonts = st .fonts; low = st .low; byte = b; at = next }) (byteSays t)
+  pub byte-right : f ≡ true → LineJudged next st (record { due = 2; unitwidth = st .unitwidth; fonts = st .fonts; low = st .low; byte = b; at = next }) (byteSays t)
   byte-right g =
       let ok = sym q ∙ g in
       let some-font = ltb-true 0 (st .fonts) (and-left (ltb 0 (st .fonts)) (isByte b && leb (st .low) b) ok) in

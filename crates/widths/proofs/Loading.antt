@@ -1,4 +1,4 @@
--- The loop over the lines of a width list. Assumes nothing.
+-- The loop over the lines of a width list.
 use Prim.Native.Nat.{ℕ, _+_, _-_, _≤_, _<_}
 use mathlib.Core.Path.{_≡_, refl, sym, _∙_}
 use mathlib.Core.List.{List, [], _∷_}
@@ -10,7 +10,7 @@ use lib.ListN.{length, drop, length-drop, drop-of-length-le}
 use lib.Seq.{drop-drop}
 use Rattle.rules.specs.Widths.{Line, Widths, Due, unitDue, blockDue, widthDue, LineRead, wrongLine, rightLine, linesFrom, lineOn, listEnds, linesSay, unsound, sound, widthList}
 use Rattle.laws.proofs.Cases.{on}
-use Rattle.lex.proofs.Lines.{line-first}
+use Rattle.scan_lex.proofs.Lines.{line-first}
 use Rattle.widths.specs.declared.State.{State}
 use Rattle.widths.specs.declared.ListAnswer.the-variants.{Unsound, Sound}
 use Rattle.widths.specs.Table.{listOf, Loaded}

@@ -1,4 +1,4 @@
--- What the places of the names and the table say of the rules' fonts. Assumes nothing.
+-- What the places of the names and the table say of the rules' fonts.
 use Prim.Native.Nat.{ℕ, _+_, _*_, _≤_, _<_}
 use mathlib.Core.Path.{_≡_, refl}
 use mathlib.Core.List.{List, [], _∷_}

@@ -1,4 +1,4 @@
--- Parts of the list, and the slot of a name. Assumes nothing.
+-- Parts of the list, and the slot of a name.
 use Prim.Native.Nat.{ℕ, suc, _+_, _-_, _≤_, _<_, min}
 use mathlib.Core.Path.{_≡_, sym, _∙_}
 use mathlib.Core.Bool.{Bool, true, false}
@@ -11,7 +11,7 @@ use lib.ListN.{length, take, drop, getD, length-drop, drop-of-length-le}
 use lib.Seq.{take-all, take-length, drop-length}
 use Rattle.rules.specs.Bytes.{if_then_else_, same}
 use Rattle.laws.proofs.Cases.{on}
-use Rattle.lex.proofs.Runs.{past-end}
+use Rattle.scan_lex.proofs.Runs.{past-end}
 use Rattle.widths.specs.Slots.{partOf, nameAt, slotIn}
 
 -- ---- a part

@@ -1,4 +1,4 @@
--- The rows while they are filled: a width stored, a slot cleared, a name added. Assumes nothing.
+-- The rows while they are filled: a width stored, a slot cleared, a name added.
 use Prim.Native.Nat.{ℕ, suc, _+_, _*_, _≤_, _<_}
 use mathlib.Core.Path.{_≡_, refl, sym, ap, _∙_, subst}
 use mathlib.Core.List.{List, [], _∷_}

@@ -1,4 +1,4 @@
--- Numbers and keys in a text, in the form in which `search` applies them at a need. Assumes nothing.
+-- Numbers and keys in a text, in the form in which `search` applies them at a need.
 use Prim.Native.Nat.{ℕ, _-_, _≤_, _<_, min}
 use mathlib.Core.Path.{_≡_, refl, sym, _∙_}
 use mathlib.Core.Bool.{Bool, true, false}
@@ -14,10 +14,10 @@ use Rattle.rules.specs.Bytes.{same, isDigit, span, value}
 use Rattle.rules.specs.Widths.{plainNumber, behind, numbered}
 use Rattle.laws.proofs.Cases.{on}
 use Rattle.widths.specs.Reading.{cut, digitsCut}
-use Rattle.lex.specs.At.{runEnd}
-use Rattle.lex.specs.Parts.{valueFrom, digitsAt}
-use Rattle.lex.specs.declared.DigitRun.{DigitRun}
-use Rattle.lex.proofs.Lines.{key-short, key-on, key-off, rest-is}
+use Rattle.scan_lex.specs.At.{runEnd}
+use Rattle.scan_lex.specs.Parts.{valueFrom, digitsAt}
+use Rattle.scan_lex.specs.declared.DigitRun.{DigitRun}
+use Rattle.scan_lex.proofs.Lines.{key-short, key-on, key-off, rest-is}
 
 -- ---- digits
 module _ (t : List ℕ) (d : DigitRun) (g : d ≡ digitsAt t 0) where

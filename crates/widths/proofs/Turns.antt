@@ -1,4 +1,4 @@
--- A line of any kind, and the loop over the lines. Assumes nothing.
+-- A line of any kind, and the loop over the lines.
 use Prim.Native.Nat.{ℕ, _+_, _-_, _≤_, _<_}
 use mathlib.Core.Path.{_≡_, sym, ap, _∙_, subst}
 use mathlib.Core.Bool.{Bool, true, false}
@@ -14,10 +14,10 @@ use Rattle.rules.specs.Bytes.{bytes, same, isNotNewline}
 use Rattle.rules.specs.Widths.{Widths, Due, unitDue, blockDue, widthDue, behind}
 use Rattle.widths.specs.declared.State.{State}
 use Rattle.widths.specs.Slots.{partOf}
-use Rattle.widths.specs.Reading.{Holds, After, Judged, Stored, Told, unitSays, byteSays, fontSays, blockSays, widthSays, turnSays, lengthAt}
-use Rattle.lex.specs.At.{runEnd}
-use Rattle.lex.proofs.Runs.{run-from, run-within}
-use Rattle.lex.proofs.Lines.{line-from, key-short, key-on, key-off, drop-take}
+use Rattle.widths.specs.Reading.{Holds, After, LineJudged, Stored, Told, unitSays, byteSays, fontSays, blockSays, widthSays, turnSays, lengthAt}
+use Rattle.scan_lex.specs.At.{runEnd}
+use Rattle.scan_lex.proofs.Runs.{run-from, run-within}
+use Rattle.scan_lex.proofs.Lines.{line-from, key-short, key-on, key-off, drop-take}
 
 -- ---- `font=NAME`, else `byte=N`
 part-rest : (list : List ℕ) (at len k : ℕ) → drop k (partOf list at len) ≡ partOf list (at + k) (len - k)
@@ -32,7 +32,7 @@ part-short list at len = omega (arith, length-take len (drop at list))
 abbrev fontKey : List ℕ
 fontKey = bytes "font="
 
-module _ (list T P L t : List ℕ) (len next : ℕ) (st r : State) (et : t ≡ partOf list (st .at) len) (j : Judged next st r (byteSays t)) where
+module _ (list T P L t : List ℕ) (len next : ℕ) (st r : State) (et : t ≡ partOf list (st .at) len) (j : LineJudged next st r (byteSays t)) where
   byte-told : (w : Widths) (d : Due) → Holds list T P L w d st → After list T P L next r (byteSays (partOf list (st .at) len) w d)
   byte-told w d v = subst (λ (x : List ℕ). After list T P L next r (byteSays x w d)) et (j .told list T P L w d v)
 
@@ -74,7 +74,7 @@ module _ (list T P L : List ℕ) (st r : State) (len : ℕ) (e : len ≡ lengthA
     ended : ltb (lengthAt list (st .at)) (length (drop (st .at) list)) ≡ true
     ended = lt-ltb (lengthAt list (st .at)) (length (drop (st .at) list)) (omega (arith, length-drop (st .at) list))
 
-    pub turn-unit : (t : List ℕ) → st .due ≡ 0 → t ≡ partOf list (st .at) len → Judged (st .at + len + 1) st r (unitSays t)
+    pub turn-unit : (t : List ℕ) → st .due ≡ 0 → t ≡ partOf list (st .at) len → LineJudged (st .at + len + 1) st r (unitSays t)
         → Told list T P L T P L (st .at + lengthAt list (st .at) + 1) st r (turnSays list (st .at))
     turn-unit t h et j = record { told = by }
       where

@@ -1,4 +1,4 @@
--- What the code holds while it goes over the lines of a width list, and how that stands for what the rules hold. Assumes nothing.
+-- What the code holds while it goes over the lines of a width list, and how that stands for what the rules hold.
 use Prim.Native.Nat.{ℕ, _+_, _*_, _≤_, _<_, min}
 use mathlib.Core.Bool.{Bool, _&&_}
 use mathlib.Core.List.{List, [], _∷_}
@@ -74,7 +74,7 @@ After list table places lens next r (rightLine d w) = (r .at ≡ next) × Holds 
 -- ---- what the functions for a line ensure, whatever the rules have reached in front of it
 
 -- no row is changed
-pub record Judged (next : ℕ) (st r : State) (says : Widths → Due → LineRead) : Type 0 where
+pub record LineJudged (next : ℕ) (st r : State) (says : Widths → Due → LineRead) : Type 0 where
   pub told : (list table places lens : List ℕ) (w : Widths) (d : Due) → Holds list table places lens w d st → After list table places lens next r (says w d)
 
 -- the table is changed

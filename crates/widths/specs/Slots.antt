@@ -1,4 +1,4 @@
--- What the code looks at in place of the rules' fonts: the names' places and lengths in the list. Assumes nothing.
+-- What the code looks at in place of the rules' fonts: the names' places and lengths in the list.
 use Prim.Native.Nat.{ℕ, zero, suc}
 use mathlib.Core.List.{List}
 use lib.ListN.{take, drop, getD}

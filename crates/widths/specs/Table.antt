@@ -1,4 +1,4 @@
--- The width list as the code holds it: its answer, the table of widths, and the names of its fonts. Assumes nothing.
+-- The width list as the code holds it: its answer, the table of widths, and the names of its fonts.
 use Prim.Native.Nat.{ℕ, _+_, _*_, _<_, _≤_}
 use mathlib.Core.Bool.{Bool, true, false}
 use mathlib.Core.List.{List, [], _∷_}

@@ -4,7 +4,7 @@ ghost use Prim.Native.Nat.{_+_, _-_, _*_, _≤_, _<_, min};
 ghost use lib.ListN.{getD, length};
 ghost use Rattle.rules.specs.Bytes.{same};
 ghost use Rattle.rules.specs.Widths.{advance, behind, numbered, plainNumber, isByte, widthList};
-ghost use Rattle.widths.specs.Reading.{cut, digitsCut, canFollow, isFresh, Good, Room, Cleared, Judged, Stored, Told, unitSays, byteSays, fontSays, blockSays, widthSays, turnSays, lengthAt};
+ghost use Rattle.widths.specs.Reading.{cut, digitsCut, canFollow, isFresh, Good, Room, Cleared, LineJudged, Stored, Told, unitSays, byteSays, fontSays, blockSays, widthSays, turnSays, lengthAt};
 ghost use Rattle.widths.specs.Table.{listOf, Loaded};
 ghost use Rattle.widths.specs.Slots.{partOf, nameAt, slotIn};
 
@@ -74,7 +74,7 @@ fn is_named(list: &[u8], places: &[u32], lens: &[u32], i: usize, name: &[u8]) ->
     ensures { λ r. ⌜ r ≡ same (nameAt (now (list .entry)) (now (places .entry)) (now (lens .entry)) i) (now (name .entry)) ⌝ }
 {
     let own = part(list, wide(places[i]), wide(lens[i]));
-    lex::same_bytes(own, name)
+    scan_lex::same_bytes(own, name)
 }
 
 // The slot of the font with a name, 32 where there is none. The newest font is looked at first.
@@ -113,7 +113,7 @@ pub fn slot(
 fn digits(t: &[u8]) -> u32
     ensures { λ r. ⌜ r ≡ digitsCut (now (t .entry)) ⌝ }
 {
-    let d = lex::digits(t, 0);
+    let d = scan_lex::digits(t, 0);
     if d.next == t.len() {
         if d.value <= 100000 { d.value } else { 100001 }
     } else {
@@ -145,7 +145,7 @@ fn keyed_number(t: &[u8], key: &[u8]) -> u32
     if t.len() < k {
         return 100001;
     }
-    if lex::same_bytes(key, &t[..k]) {
+    if scan_lex::same_bytes(key, &t[..k]) {
         number(&t[k..])
     } else {
         100001
@@ -168,7 +168,7 @@ fn wrong(at: usize) -> State
 
 // `unitwidth=N`
 fn unit_line(t: &[u8], st: State, next: usize) -> State
-    ensures { λ r. ⌜ Judged next st r (unitSays (now (t .entry))) ⌝ }
+    ensures { λ r. ⌜ LineJudged next st r (unitSays (now (t .entry))) ⌝ }
 {
     let n = keyed_number(t, b"unitwidth=");
     if n < 1 {
@@ -203,7 +203,7 @@ fn can_follow(b: u32, fonts: usize, low: u32) -> bool
 
 // `byte=N`
 fn byte_line(t: &[u8], st: State, next: usize) -> State
-    ensures { λ r. ⌜ Judged next st r (byteSays (now (t .entry))) ⌝ }
+    ensures { λ r. ⌜ LineJudged next st r (byteSays (now (t .entry))) ⌝ }
 {
     let b = keyed_number(t, b"byte=");
     if can_follow(b, st.fonts, st.low) {
@@ -269,7 +269,7 @@ fn is_fresh(list: &[u8], places: &[u32], lens: &[u32], fonts: usize, name: &[u8]
     requires { ⌜ (fonts ≤ length (now places)) × (fonts ≤ length (now lens)) ⌝ }
     ensures { λ r. ⌜ r ≡ isFresh (now (list .entry)) (now (places .entry)) (now (lens .entry)) fonts (now (name .entry)) ⌝ }
 {
-    let ok = lex::is_string(name);
+    let ok = scan_lex::is_string(name);
     let k = slot_of(list, places, lens, fonts, name);
     ok & (k == 32)
 }
@@ -328,7 +328,7 @@ fn block_line(
     if len < 5 {
         return byte_line(t, st, next);
     }
-    if lex::same_bytes(b"font=", part(list, at, 5)) {
+    if scan_lex::same_bytes(b"font=", part(list, at, 5)) {
         let place = at + 5;
         font_line(list, place, len - 5, table, places, lens, st, next)
     } else {
@@ -341,7 +341,7 @@ fn line_len(list: &[u8], at: usize) -> usize
     requires { ⌜ at ≤ length (now list) ⌝ }
     ensures { λ r. ⌜ (r ≡ lengthAt (now (list .entry)) at) × (at + r ≤ length (now (list .entry))) ⌝ }
 {
-    lex::line_end(list, at) - at
+    scan_lex::line_end(list, at) - at
 }
 
 // One line: what is due says which.

@@ -1,6 +1,5 @@
 -- `mrkvandel_read` meets its contract: a walk of its MIR, by hand, with no branch. The reader has both rows lent again (`lends-two`), with copies of the stream and of the width list.
 -- Contexts: [the records; their token; the entries; their token; the stream; its token; the widths; their token; _9; …; _0; …]. Local j stands at 8 + 2 · (9 − j).
--- Assumes nothing.
 use mathlib.Core.Path.{_≡_, refl, _∙_, ap, subst}
 use Prim.Native.Nat.{ℕ, _<_, _^_}
 use mathlib.Core.List.{[], _∷_, List}

@@ -1,6 +1,5 @@
 -- `read::read` meets its contract: a walk of its MIR, by hand, with no branch. The scratch row is a local array, which stands as a row from its making to the answer, and is lent to each callee (`Locals.antt`); the pass has both rows lent again beside it (`lends-two`).
 -- Contexts: [ws; the records; their token; the entries; their token; s; its token; list; its token; _29; …; _0; …]. Local j stands at 9 + 2 · (29 − j), and one less below `_5`, whose cell is the row.
--- Assumes nothing.
 use mathlib.Core.Path.{_≡_, refl, sym, _∙_, ap, subst}
 use Prim.Native.Nat.{ℕ, _<_, _^_}
 use mathlib.Core.List.{[], _∷_, List}
@@ -45,18 +44,18 @@ use Rattle.rules.specs.declared.Entry.{Entry}
 use Rattle.rules.specs.declared.Reading.{Reading}
 use Rattle.rules.specs.Record.{Answer}
 use Rattle.rules.specs.Answers.{readInto, readingOf, recordsOver, entriesOver}
-use Rattle.reader.specs.declared.State.{State}
-use Rattle.reader.specs.Fits.{EnvFits}
-use Rattle.reader.specs.Passes.{Pass, passOf}
-use Rattle.turns.specs.Ready.{findIn, Scratch}
-use Rattle.passes.specs.Sound.{Sound}
-use Rattle.plan.specs.Plan.{Unmounted, Started, againOf, answerOf, AreBytes}
+use Rattle.read_model.specs.declared.State.{State}
+use Rattle.read_model.specs.Fits.{EnvFits}
+use Rattle.read_model.specs.Passes.{ReadPass, readPassOf}
+use Rattle.read_turn.specs.Ready.{findIn, Scratch}
+use Rattle.read_pass.specs.Ready.{PassReady}
+use Rattle.read_setup.specs.Setup.{Unmounted, Started, againOf, readAnswerOf, AreBytes}
 use Rattle.rules.proofs.Record as TG
 use Rattle.rules.proofs.Entry as TE
 use Rattle.rules.proofs.Reading as TR
 use Rattle.rules.proofs.Reading.Laws as TR′
-use Rattle.reader.proofs.State as TS
-use Rattle.reader.proofs.State.Laws as TS′
+use Rattle.read_model.proofs.State as TS
+use Rattle.read_model.proofs.State.Laws as TS′
 use Rattle.rowkit.proofs.Rows.{refAt, asks, LentAgain}
 use Rattle.rowkit.proofs.Lends.{Goes-two, Comes-two, Left-two, lends-two}
 use Rattle.rowkit.proofs.Local.{local-out, local-in, big-lit}
@@ -66,22 +65,22 @@ use Rattle.read.proofs.room as room-fn
 use Rattle.read.proofs.room.Symbol as room-def
 use Rattle.read.proofs.room.Symbol.{name as #read·room}
 use Rattle.read.proofs.room.Met as room-thm
-use Rattle.plan.proofs.start as start-fn
-use Rattle.plan.proofs.start.Symbol as start-def
-use Rattle.plan.proofs.start.Symbol.{name as #plan·start}
-use Rattle.plan.proofs.start.Met as start-thm
-use Rattle.plan.proofs.again as again-fn
-use Rattle.plan.proofs.again.Symbol as again-def
-use Rattle.plan.proofs.again.Symbol.{name as #plan·again}
-use Rattle.plan.proofs.again.Met as again-thm
-use Rattle.plan.proofs.answer as answer-fn
-use Rattle.plan.proofs.answer.Symbol as answer-def
-use Rattle.plan.proofs.answer.Symbol.{name as #plan·answer}
-use Rattle.plan.proofs.answer.Met as answer-thm
-use Rattle.passes.proofs.pass as pass-fn
-use Rattle.passes.proofs.pass.Symbol as pass-def
-use Rattle.passes.proofs.pass.Symbol.{name as #passes·pass}
-use Rattle.passes.proofs.pass.Met as pass-thm
+use Rattle.read_setup.proofs.start as start-fn
+use Rattle.read_setup.proofs.start.Symbol as start-def
+use Rattle.read_setup.proofs.start.Symbol.{name as #read-setup·start}
+use Rattle.read_setup.proofs.start.Met as start-thm
+use Rattle.read_setup.proofs.again as again-fn
+use Rattle.read_setup.proofs.again.Symbol as again-def
+use Rattle.read_setup.proofs.again.Symbol.{name as #read-setup·again}
+use Rattle.read_setup.proofs.again.Met as again-thm
+use Rattle.read_setup.proofs.answer as answer-fn
+use Rattle.read_setup.proofs.answer.Symbol as answer-def
+use Rattle.read_setup.proofs.answer.Symbol.{name as #read-setup·answer}
+use Rattle.read_setup.proofs.answer.Met as answer-thm
+use Rattle.read_pass.proofs.pass as pass-fn
+use Rattle.read_pass.proofs.pass.Symbol as pass-def
+use Rattle.read_pass.proofs.pass.Symbol.{name as #read-pass·pass}
+use Rattle.read_pass.proofs.pass.Met as pass-thm
 use Rattle.read.proofs.read.Key.{name as #read·read}
 use Rattle.read.proofs.read as f
 use Rattle.read.proofs.read.Statement as stated
@@ -260,12 +259,12 @@ module _ {M : Type 1} (𝓤 : URA M) (H : Heap 𝓤) (A : Atoms 𝓤) (W : Given
 
       -- `pass`, from the state st, on the rows gs and zs lent again beside it; ws is lent for the lifetime ν₂ under the name δ₂
       module _ (gs : List Record) (zs : List Entry) where
-        abbrev ended : Pass
-        ended = passOf (findIn ls (st .fonts) xs) ss (passFrom st xs gs zs)
+        abbrev ended : ReadPass
+        ended = readPassOf (findIn ls (st .fonts) xs) ss (passFrom st xs gs zs)
 
         -- the result is some state r, at the machine value u, with the rows as the definition has them
         abbrev passed : Val → List Record → List Entry → Type 0
-        passed u g z = (r : State) × (Is TS.the-row r (u ∷ []) × (_≡_ {A = Pass} (passFrom r (ended .scratch) g z) ended))
+        passed u g z = (r : State) × (Is TS.the-row r (u ∷ []) × (_≡_ {A = ReadPass} (passFrom r (ended .scratch) g z) ended))
 
         module _ (ν₂ : ℕ) (δ₂ : GName) where
           abbrev to-pass : ℕ → GName → ℕ → GName → Passes 𝓤 H A mem run .Ghost
@@ -277,7 +276,7 @@ module _ {M : Type 1} (𝓤 : URA M) (H : Heap 𝓤) (A : Atoms 𝓤) (W : Given
           abbrev pass-back : Val → SProp 𝓤
           pass-back u = sep 𝓤 (sep 𝓤 (A .lft (ν₂ ∷ []) fullShare) (sem 𝓤 H A (finally u32 δ₂ (ended .scratch)))) (sep 𝓤 (A .lft κ₀ q₀) (sep 𝓤 (A .lft κ₁ q₁) (sem 𝓤 H A ftrue)))
 
-          goes-pass : Sound (length ss) xs (length gs) (length zs) st → Goes-two 𝓤 H A W TG.the-row κ₂ q₂ γ₂ b₂ o₂ gs gv TE.the-row κ₃ q₃ γ₃ b₃ o₃ zs ev (Passes 𝓤 H A mem run) to-pass pass-asks pass-back passed
+          goes-pass : PassReady (length ss) xs (length gs) (length zs) st → Goes-two 𝓤 H A W TG.the-row κ₂ q₂ γ₂ b₂ o₂ gs gv TE.the-row κ₃ q₃ γ₃ b₃ o₃ zs ev (Passes 𝓤 H A mem run) to-pass pass-asks pass-back passed
           goes-pass sound ν δ ν′ δ′ =
               qed W ((‵ (flft (ν ∷ []) fullShare) ⊛ ‵ (flft (ν′ ∷ []) fullShare)) ∷ (‵ (MutSlice (named 0) (ν ∷ []) TG.the-row .own (refAt b₂ o₂ δ gs) (gv ∷ [])) ⊛ ‵ (MutSlice (named 1) (ν′ ∷ []) TE.the-row .own (refAt b₃ o₃ δ′ zs) (ev ∷ [])))
               ∷ ((‵ (flft (ν₂ ∷ []) fullShare) ⊛ (‵ (flft κ₀ q₀) ⊛ ‵ (flft κ₁ q₁))) ⊛ ((‵ (Ws ν₂ δ₂) ⊛ (‵ Str ⊛ ‵ Names)) ⊛ ‵ (TS.the-row .own st (stv st ∷ [])))) ∷ []) ∵ says ! sound $
@@ -290,19 +289,19 @@ module _ {M : Type 1} (𝓤 : URA M) (H : Heap 𝓤) (A : Atoms 𝓤) (W : Given
           comes-pass ν δ ν′ δ′ u =
               qed W (raw (Passes 𝓤 H A mem run .post (to-pass ν δ ν′ δ′) u) ∷ []) ∵ updating ! $
               use1 W (later (some (λ (r : State). ((‵ (flft (ν ∷ []) fullShare) ⊛ ‵ (flft (ν′ ∷ []) fullShare) ⊛ ‵ (flft (ν₂ ∷ []) fullShare) ⊛ ‵ (flft κ₀ q₀) ⊛ ‵ (flft κ₁ q₁) ⊛ ‵ ftrue) ⊛ ‵ (TS.the-row .own r (u ∷ []))) ⊛ raw (ensured 𝓤 H A pass-fn.ended (pass-fn.clauses 𝓤 H A mem run) (to-pass ν δ ν′ δ′ .0 .0) (to-pass ν δ ν′ δ′ .0 .3) tt r)))) (id⊢ 𝓤 _) $ await ! tt $ pick ! (λ r.
-              split ! $ move ! (1 ∷ []) $ use1 W (some (λ (z : Lasts pass-fn.ended (to-pass ν δ ν′ δ′ .0 .0) (to-pass ν δ ν′ δ′ .0 .3)). ‵ (lasts pass-fn.ended (to-pass ν δ ν′ δ′ .0 .0) (to-pass ν δ ν′ δ′ .0 .3) z) ⊛ raw (fact 𝓤 (_≡_ {A = Pass} (passFrom r (z .1 .1 .0) (z .0) (z .1 .0)) ended)))) (id⊢ 𝓤 _) $ pick ! (λ z.
-              split ! $ move ! (1 ∷ []) $ heard ! (_≡_ {A = Pass} (passFrom r (z .1 .1 .0) (z .0) (z .1 .0)) ended) (λ e. fsplit ! $ fsplit ! $ move ! (1 ∷ []) $ feqL ! (λ len. move ! (1 ∷ []) $ fsplit ! $ fsplit ! $ move ! (1 ∷ []) $ feqL ! (λ len′. move ! (1 ∷ []) $ fsplit ! $ fsplit ! $ move ! (1 ∷ []) $ drop ! $
+              split ! $ move ! (1 ∷ []) $ use1 W (some (λ (z : Lasts pass-fn.ended (to-pass ν δ ν′ δ′ .0 .0) (to-pass ν δ ν′ δ′ .0 .3)). ‵ (lasts pass-fn.ended (to-pass ν δ ν′ δ′ .0 .0) (to-pass ν δ ν′ δ′ .0 .3) z) ⊛ raw (fact 𝓤 (_≡_ {A = ReadPass} (passFrom r (z .1 .1 .0) (z .0) (z .1 .0)) ended)))) (id⊢ 𝓤 _) $ pick ! (λ z.
+              split ! $ move ! (1 ∷ []) $ heard ! (_≡_ {A = ReadPass} (passFrom r (z .1 .1 .0) (z .0) (z .1 .0)) ended) (λ e. fsplit ! $ fsplit ! $ move ! (1 ∷ []) $ feqL ! (λ len. move ! (1 ∷ []) $ fsplit ! $ fsplit ! $ move ! (1 ∷ []) $ feqL ! (λ len′. move ! (1 ∷ []) $ fsplit ! $ fsplit ! $ move ! (1 ∷ []) $ drop ! $
               -- [ws's last list; true; the entries'; the records'; the tokens with the result]
-              rewrite ! 0 (λ (x : List ℕ). ‵ (finally u32 δ₂ x)) (ap (λ (x : Pass). x .scratch) e) refl $
+              rewrite ! 0 (λ (x : List ℕ). ‵ (finally u32 δ₂ x)) (ap (λ (x : ReadPass). x .scratch) e) refl $
               move ! (4 ∷ []) $ split ! $ move ! (1 ∷ []) $ peeks ! TS.the-row (Is TS.the-row) (shows 𝓤 H A TS.the-row) r (u ∷ []) (λ is. drop ! $ split ! $ move ! (1 ∷ []) $ split ! $ move ! (1 ∷ []) $ split ! $
               -- [ν₂; the other tokens; ν′; ν; ws's last list; true; the entries'; the records']
               at-once ! $ show ! (Left-two 𝓤 H A W TG.the-row κ₂ q₂ γ₂ b₂ o₂ gs gv TE.the-row κ₃ q₃ γ₃ b₃ o₃ zs ev (Passes 𝓤 H A mem run) to-pass pass-asks pass-back passed ν δ ν′ δ′ u) (z .0, z .1 .0) $
-              says ! (len, len′, (r, (is, subst (λ (x : List ℕ). _≡_ {A = Pass} (passFrom r x (z .0) (z .1 .0)) ended) (ap (λ (x : Pass). x .scratch) e) e))) $
+              says ! (len, len′, (r, (is, subst (λ (x : List ℕ). _≡_ {A = ReadPass} (passFrom r x (z .0) (z .1 .0)) ended) (ap (λ (x : ReadPass). x .scratch) e) e))) $
               move ! (3 ∷ 2 ∷ []) $ join ! $ frame ! $ move ! (5 ∷ 4 ∷ []) $ join ! $ frame ! $ move ! (3 ∷ []) $ drop ! $ move ! (0 ∷ 2 ∷ []) $ join ! $ frame ! $ done !))))))
 
         -- the call: [ws; what the parameters own; Γ], and after it the same at the last lists. The operands are read beside six entries in front of Γ
         runs-pass : {J : Type 0} {Γ : List (Item 𝓤)} {C : Calls 𝓤 H} {Λ : Loops 𝓤 H} {E : Env 𝓤 H} {p : After 𝓤 H} {g : Name} {vs : List Operand} {d : Place} {rest : Body} → J → FmC 𝓤 H (W .laws) C → Triple 𝓤 (C g) (Passes 𝓤 H A mem run)
-            → Sound (length ss) xs (length gs) (length zs) st → Is TS.the-row st (stv st ∷ []) → Room TG.the-row (length gs) → gv ≡ sliceVal (b₂, o₂) (length gs) → Room TE.the-row (length zs) → ev ≡ sliceVal (b₃, o₃) (length zs)
+            → PassReady (length ss) xs (length gs) (length zs) st → Is TS.the-row st (stv st ∷ []) → Room TG.the-row (length gs) → gv ≡ sliceVal (b₂, o₂) (length gs) → Room TE.the-row (length zs) → ev ≡ sliceVal (b₃, o₃) (length zs)
             → ((ν₂ : ℕ) (δ₂ : GName) (ν : ℕ) (δ : GName) (ν′ : ℕ) (δ′ : GName) → Opds J W (raw (Passes 𝓤 H A mem run .pre (to-pass ν₂ δ₂ ν δ ν′ δ′)) ∷ ‵ (LentAgain TG.the-row κ₂ (ν ∷ []) q₂ γ₂ b₂ o₂ δ gs) ∷ ‵ (LentAgain TE.the-row κ₃ (ν′ ∷ []) q₃ γ₃ b₃ o₃ δ′ zs)
             ∷ ‵ Names ∷ ‵ Str ∷ ‵ (flent (ν₂ ∷ []) (Held u32 (length xs) l 0 δ₂)) ∷ Γ) E vs (gv ∷ ev ∷ wsv l ∷ sv ∷ lv ∷ stv st ∷ []))
             → ((u : Val) (gs′ : List Record) (zs′ : List Entry) → length gs′ ≡ length gs → length zs′ ≡ length zs → length (ended .scratch) ≡ length xs → passed u gs′ zs′ → Seq J W (‵ (row u32 fullShare (ended .scratch) l 0) ∷ Params gs′ zs′ Γ) (lands C Λ E d u rest p))
@@ -319,8 +318,8 @@ module _ {M : Type 1} (𝓤 : URA M) (H : Heap 𝓤) (A : Atoms 𝓤) (W : Given
             move t (4 ∷ []) $ use1 W ((‵ (flft (ν₂ ∷ []) fullShare) ⊛ ‵ (finally u32 δ₂ (ended .scratch))) ⊛ (‵ (flft κ₀ q₀) ⊛ ‵ (flft κ₁ q₁) ⊛ ‵ ftrue)) (id⊢ 𝓤 _) $ split t $ split t $ move t (2 ∷ []) $ split t $ move t (1 ∷ []) $ split t $ move t (1 ∷ []) $ drop t $
             move t (2 ∷ 3 ∷ 10 ∷ 4 ∷ 5 ∷ 6 ∷ 7 ∷ 9 ∷ 1 ∷ 8 ∷ 0 ∷ []) $ row-in 𝓤 H A W u32 l 0 xs (wsv l) t tt ν₂ δ₂ (ended .scratch) (λ len. k u gs′ zs′ gl el len d)))
 
-  module _ (𝓣 : Tables 𝓤 H) (known-room : Triple 𝓤 (𝓣 .C #read·room) (Rooms 𝓤 H A mem run)) (known-start : Triple 𝓤 (𝓣 .C #plan·start) (Starts 𝓤 H A mem run)) (known-again : Triple 𝓤 (𝓣 .C #plan·again) (Agains 𝓤 H A mem run)) (known-answer : Triple 𝓤 (𝓣 .C #plan·answer) (Answers 𝓤 H A mem run))
-      (known-pass : Triple 𝓤 (𝓣 .C #passes·pass) (Passes 𝓤 H A mem run)) (s-fits : length ss < 2 ^ 64) (l-fits : length ls < 2 ^ 64) (g-room : Room TG.the-row (length ys)) (e-room : Room TE.the-row (length es)) where
+  module _ (𝓣 : Tables 𝓤 H) (known-room : Triple 𝓤 (𝓣 .C #read·room) (Rooms 𝓤 H A mem run)) (known-start : Triple 𝓤 (𝓣 .C #read-setup·start) (Starts 𝓤 H A mem run)) (known-again : Triple 𝓤 (𝓣 .C #read-setup·again) (Agains 𝓤 H A mem run)) (known-answer : Triple 𝓤 (𝓣 .C #read-setup·answer) (Answers 𝓤 H A mem run))
+      (known-pass : Triple 𝓤 (𝓣 .C #read-pass·pass) (Passes 𝓤 H A mem run)) (s-fits : length ss < 2 ^ 64) (l-fits : length ls < 2 ^ 64) (g-room : Room TG.the-row (length ys)) (e-room : Room TE.the-row (length es)) where
     abbrev C : Calls 𝓤 H
     C = 𝓣 .C
 
@@ -399,7 +398,7 @@ module _ {M : Type 1} (𝓤 : URA M) (H : Heap 𝓤) (A : Atoms 𝓤) (W : Given
         -- the array is the local again; `answer`
         use1 W (some (λ (us : List Val). ‵ (fat fullShare (tyArray (tyInt w32) 8768) l₅ 0 (arrayVal us)) ⊛ ‵ (Array u32 8768 .own (ended l₅ ws₂ (d₂ .0) gs zs .scratch) (arrayVal us ∷ [])))) (local-in 𝓤 H A W u32 8768 l₅ (ended l₅ ws₂ (d₂ .0) gs zs .scratch) (tl ∙ d₂ .1 .1 .1 .scratch .size)) $ pick ! (λ us. split ! $ move ! (1 ∷ []) $ drop ! $
         owned ! TS.the-row (Is TS.the-row) (LL.makes TS.the-type TS′.the-plain 𝓤 H A) (d₃ .0) _ (told (d₃ .0) _ (d₃ .1 .0)) $ use1 W (raw (Answers 𝓤 H A mem run .pre (to-answer (d₃ .0)))) (goes-answer (d₃ .0) (last-fits ss ls ys es (d₀ .0) ws₁ (d₀ .1 .1 .0) (passFrom (d₁ .0) (ended l₅ ws₁ (d₀ .0) ys es .scratch) gs zs) (d₁ .1 .1) (d₂ .0) (d₂ .1 .1 .0) ws₂ (d₂ .1 .1 .1) (passFrom (d₃ .0) (ended l₅ ws₂ (d₂ .0) gs zs .scratch) gs₃ zs₃) (d₃ .1 .1))) $
-        asks 𝓤 H A W answer-fn.ended (answer-fn.clauses 𝓤 H A mem run) ! fm known-answer (to-answer (d₃ .0)) (λ r. r ≡ answerOf (d₃ .0)) (λ r ws. id⊢ 𝓤 _) (and-then ! (load ! (from ! (stop !)) (look ! 50 refl)) (no-more !)) (λ v r e.
+        asks 𝓤 H A W answer-fn.ended (answer-fn.clauses 𝓤 H A mem run) ! fm known-answer (to-answer (d₃ .0)) (λ r. r ≡ readAnswerOf (d₃ .0)) (λ r ws. id⊢ 𝓤 _) (and-then ! (load ! (from ! (stop !)) (look ! 50 refl)) (no-more !)) (λ v r e.
         peeks ! TR.the-row (Is TR.the-row) (shows 𝓤 H A TR.the-row) r (v ∷ []) (λ is. land ! (from ! (stop !)) (init ! 68 refl (LL.lawful TR.the-type TR′.the-laws 𝓤 H A W .typed r _ is .0)) $
         rewrite ! 68 (λ (x : Val). ‵ (fat fullShare TR′.mir l₀ 0 x)) (ap only (LL.tells TR.the-type TR′.the-laws r _ is)) refl $ drop ! $ drop ! $
         -- [_5; what the parameters own; _29; …; what frees _5; …; _0; …]
@@ -412,7 +411,7 @@ module _ {M : Type 1} (𝓤 : URA M) (H : Heap 𝓤) (A : Atoms 𝓤) (W : Given
         by ! (exits r gs₃ zs₃ (let y = reads-as ss ls ys es (d₀ .0) ws₁ (d₀ .1 .1 .0) (passFrom (d₁ .0) (ended l₅ ws₁ (d₀ .0) ys es .scratch) gs zs) (d₁ .1 .1) (d₂ .0) (d₂ .1 .1 .0) ws₂ (d₂ .1 .1 .1) (passFrom (d₃ .0) (ended l₅ ws₂ (d₂ .0) gs zs .scratch) gs₃ zs₃) (d₃ .1 .1) (d₀ .1 .1 .1) in (e ∙ y .0, y .1, y .2)) (gl₃ ∙ gl) (el₃ ∙ el) (answered r _ is)))))))))))))))))))))))))))))))))))))))))
 
 module _ {M : Type 1} (𝓤 : URA M) (H : Heap 𝓤) (A : Atoms 𝓤) (W : Given 𝓤 H A) (mem : Memory → SProp 𝓤) (run : Routine → Fun 𝓤) (𝓣 : Tables 𝓤 H)
-    (known-room : Triple 𝓤 (𝓣 .C #read·room) (Rooms 𝓤 H A mem run)) (known-start : Triple 𝓤 (𝓣 .C #plan·start) (Starts 𝓤 H A mem run)) (known-again : Triple 𝓤 (𝓣 .C #plan·again) (Agains 𝓤 H A mem run)) (known-answer : Triple 𝓤 (𝓣 .C #plan·answer) (Answers 𝓤 H A mem run)) (known-pass : Triple 𝓤 (𝓣 .C #passes·pass) (Passes 𝓤 H A mem run)) where
+    (known-room : Triple 𝓤 (𝓣 .C #read·room) (Rooms 𝓤 H A mem run)) (known-start : Triple 𝓤 (𝓣 .C #read-setup·start) (Starts 𝓤 H A mem run)) (known-again : Triple 𝓤 (𝓣 .C #read-setup·again) (Agains 𝓤 H A mem run)) (known-answer : Triple 𝓤 (𝓣 .C #read-setup·answer) (Answers 𝓤 H A mem run)) (known-pass : Triple 𝓤 (𝓣 .C #read-pass·pass) (Passes 𝓤 H A mem run)) where
   read-walks : Walks 𝓤 H A f.ended stayed (WpFn 𝓤 H (𝓣 .C) (𝓣 .Λ) code.function) (f.clauses 𝓤 H A mem run)
   read-walks = walked 𝓤 H A f.ended stayed (f.clauses 𝓤 H A mem run) (WpFn 𝓤 H (𝓣 .C) (𝓣 .Λ) code.function)
       (λ κs. (slice-vals, (slice-vals, (slice-vals, (slice-vals, tt)))))
@@ -434,7 +433,7 @@ read-spec 𝓤 H 𝓜 𝓖 𝓡 =
     (tables 𝓤 H 𝓜 𝓡 code.env .C) (tables 𝓤 H 𝓜 𝓡 code.env .Λ) #read·read code.function (code.unfolded 𝓤 H 𝓜 𝓡)
     (read-meets 𝓤 H (𝓖 .A) (givenOf 𝓤 H 𝓜 𝓖) (𝓜 .mem) (𝓡 .run) (tablesOf 𝓤 H 𝓜 (tables 𝓤 H 𝓜 𝓡 code.env))
     (cited 𝓤 H (Rooms 𝓤 H (𝓖 .A) (𝓜 .mem) (𝓡 .run)) 𝓜 𝓡 code.env #read·room room-def.routine code.calls-read·room (room-thm.met 𝓤 H 𝓜 𝓖 𝓡))
-    (cited 𝓤 H (Starts 𝓤 H (𝓖 .A) (𝓜 .mem) (𝓡 .run)) 𝓜 𝓡 code.env #plan·start start-def.routine code.calls-plan·start (start-thm.met 𝓤 H 𝓜 𝓖 𝓡))
-    (cited 𝓤 H (Agains 𝓤 H (𝓖 .A) (𝓜 .mem) (𝓡 .run)) 𝓜 𝓡 code.env #plan·again again-def.routine code.calls-plan·again (again-thm.met 𝓤 H 𝓜 𝓖 𝓡))
-    (cited 𝓤 H (Answers 𝓤 H (𝓖 .A) (𝓜 .mem) (𝓡 .run)) 𝓜 𝓡 code.env #plan·answer answer-def.routine code.calls-plan·answer (answer-thm.met 𝓤 H 𝓜 𝓖 𝓡))
-    (cited 𝓤 H (Passes 𝓤 H (𝓖 .A) (𝓜 .mem) (𝓡 .run)) 𝓜 𝓡 code.env #passes·pass pass-def.routine code.calls-passes·pass (pass-thm.met 𝓤 H 𝓜 𝓖 𝓡)))
+    (cited 𝓤 H (Starts 𝓤 H (𝓖 .A) (𝓜 .mem) (𝓡 .run)) 𝓜 𝓡 code.env #read-setup·start start-def.routine code.calls-plan·start (start-thm.met 𝓤 H 𝓜 𝓖 𝓡))
+    (cited 𝓤 H (Agains 𝓤 H (𝓖 .A) (𝓜 .mem) (𝓡 .run)) 𝓜 𝓡 code.env #read-setup·again again-def.routine code.calls-plan·again (again-thm.met 𝓤 H 𝓜 𝓖 𝓡))
+    (cited 𝓤 H (Answers 𝓤 H (𝓖 .A) (𝓜 .mem) (𝓡 .run)) 𝓜 𝓡 code.env #read-setup·answer answer-def.routine code.calls-plan·answer (answer-thm.met 𝓤 H 𝓜 𝓖 𝓡))
+    (cited 𝓤 H (Passes 𝓤 H (𝓖 .A) (𝓜 .mem) (𝓡 .run)) 𝓜 𝓡 code.env #read-pass·pass pass-def.routine code.calls-passes·pass (pass-thm.met 𝓤 H 𝓜 𝓖 𝓡)))

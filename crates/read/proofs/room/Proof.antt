@@ -1,9 +1,9 @@
--- `read::room` meets its contract: 8768 noughts are a scratch row. Assumes nothing.
+-- `read::room` meets its contract: 8768 noughts are a scratch row.
 use Prim.Native.Nat.{ℕ, zero, suc}
 use native.Mathlib.Omega.{arith}
 use mathlib.Core.Path.{_≡_, refl, _∙_}
 use lib.ListN.{getD, replicate, length-replicate}
-use Rattle.turns.specs.Ready.{Scratch}
+use Rattle.read_turn.specs.Ready.{Scratch}
 use Rattle.read.proofs.room.Statement.{statement}
 use Rattle.read.proofs.room.Tie as tie
 

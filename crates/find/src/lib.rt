@@ -1,0 +1,44 @@
+// The finder (document 01, "Finding"): a stream with its width list, a query, and two lent rows. One pass judges the stream, and
+// where nothing is against it a second one fills the records, and the search lists the hits.
+use rules::Entry;
+use rules::Finding;
+use rules::Record;
+ghost use mathlib.Core.Path.{_≡_};
+ghost use lib.ListN.{length};
+ghost use Rattle.rules.specs.Answers.{findInto, findingOf, recordsFound, hitsOver};
+
+fn query_room() -> [u32; 193] {
+    [0u32; 193]
+}
+
+// The row of entries that a finding does not fill.
+fn no_entries() -> [Entry; 1] {
+    [Entry {
+        command: 0,
+        letter: 0,
+        scheme: 0,
+        ordinal: 0,
+        place: 0,
+        len: 0,
+        h: 0,
+        v: 0,
+    }]
+}
+
+// How many records and hits; or a refusal, which leaves both rows as they were.
+pub fn find(s: &[u8], list: &[u8], q: &[u8], records: &mut [Record], hits: &mut [u32]) -> Finding
+    ensures { λ r. ⌜ (r ≡ findingOf (findInto (length (now (records .entry))) (length (now (hits .entry))) (now (s .entry)) (now (list .entry)) (now (q .entry)))) × (now (records .exit) ≡ recordsFound (now (records .entry)) (findInto (length (now (records .entry))) (length (now (hits .entry))) (now (s .entry)) (now (list .entry)) (now (q .entry)))) × (now (hits .exit) ≡ hitsOver (now (hits .entry)) (findInto (length (now (records .entry))) (length (now (hits .entry))) (now (s .entry)) (now (list .entry)) (now (q .entry)))) ⌝ }
+{
+    let mut ws = read::room();
+    let mut rows = query_room();
+    let mut none = no_entries();
+    let x = find_setup::ask(&mut rows, q);
+    let a = find_setup::start(&mut ws, s, list, x);
+    let b = read_pass::pass(records, &mut none, &mut ws, s, list, a);
+    let too = find_setup::too_many(&rows, s, q, b, hits.len());
+    let c = find_setup::again(&mut ws, b, s.len(), records.len(), too);
+    let d = read_pass::pass(records, &mut none, &mut ws, s, list, c);
+    let g = find_setup::progress(d, &rows, hits.len());
+    let e = find_search::search(hits, records, s, q, &rows, g);
+    find_setup::answer(d, e)
+}

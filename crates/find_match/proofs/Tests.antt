@@ -1,0 +1,61 @@
+-- The test of one glyph: the answer of each return, in the form in which `search` applies it.
+use Prim.Native.Nat.{ℕ, zero, suc, _+_, _<_, _≤_}
+use native.Mathlib.Omega.{arith}
+use mathlib.Core.Bool.{Bool, true, false}
+use mathlib.Core.List.{List}
+use mathlib.Core.Path.{_≡_, refl, sym, ap, _∙_}
+use lib.Dec.{eqb}
+use lib.ListN.{length, getD}
+use borrow.Author.Needs.{needs}
+use borrow.Author.Tests.{eq-eqb, ne-eqb}
+use Rattle.rules.specs.Bytes.{if_then_else_, same}
+use Rattle.rules.specs.Find.{gapTest, glyphTest, sameName}
+use Rattle.query.specs.Parts.{partIn}
+use Rattle.find_match.specs.declared.Key.{Key}
+use Rattle.find_match.specs.declared.Reason.{Reason}
+use Rattle.find_match.specs.declared.Reason.the-variants as R
+use Rattle.find_match.specs.Match.{keyIn, gapAt, wantedIn, reasonOf}
+
+-- ---- gaps
+
+module _ (asked gap : ℕ) where
+  pub gap-any : asked ≡ 0 → R.Fits ≡ reasonOf (gapTest (gapAt asked) gap)
+  gap-any e = rw e
+
+  pub gap-none : asked ≡ 1 → gap ≡ 0 → R.Fits ≡ reasonOf (gapTest (gapAt asked) gap)
+  gap-none e z = rw (e, eq-eqb gap 0 z)
+
+  pub gap-there : asked ≡ 1 → (gap ≡ 0 → ⊥) → R.GapPresent ≡ reasonOf (gapTest (gapAt asked) gap)
+  gap-there e z = rw (e, ne-eqb gap 0 z)
+
+some-gap : (asked : ℕ) → (asked ≡ 0 → ⊥) → (asked ≡ 1 → ⊥) → gapAt asked ≡ gapAt 2
+some-gap zero a b = absurd (a refl)
+some-gap (suc zero) a b = absurd (b refl)
+some-gap (suc (suc n)) a b = refl
+
+module _ (asked gap : ℕ) (a : asked ≡ 0 → ⊥) (b : asked ≡ 1 → ⊥) where
+  pub gap-absent : gap ≡ 0 → R.GapAbsent ≡ reasonOf (gapTest (gapAt asked) gap)
+  gap-absent z = rw (some-gap asked a b, eq-eqb gap 0 z)
+
+  pub gap-some : (gap ≡ 0 → ⊥) → R.Fits ≡ reasonOf (gapTest (gapAt asked) gap)
+  gap-some z = rw (some-gap asked a b, ne-eqb gap 0 z)
+
+pub ruleset gap-tests = (gap-any, gap-none, gap-there, gap-absent, gap-some, needs)
+
+-- ---- page, name, gap
+
+module _ (s q rows : List ℕ) (j page : ℕ) (k : Key) where
+  pub other-page : (k .ordinal ≡ page → ⊥) → R.OtherPage ≡ reasonOf (glyphTest page (wantedIn q rows j) (keyIn s k))
+  other-page h = rw (ne-eqb (k .ordinal) page h)
+
+  module _ (place len : ℕ) (name wanted : List ℕ) (t : Bool) (h : k .ordinal ≡ page) (a : place ≡ getD rows j 0) (b : len ≡ getD rows (64 + j) 0) (n : name ≡ partIn s (k .place) (k .len)) (m : wanted ≡ partIn q place len) (e : t ≡ same name wanted) where
+    names : sameName (partIn s (k .place) (k .len)) (wantedIn q rows j .name) ≡ t
+    names = rw (← n, ← a, ← b, ← m) (sym e)
+
+    pub other-name : t ≡ false → R.OtherName ≡ reasonOf (glyphTest page (wantedIn q rows j) (keyIn s k))
+    other-name f = rw (eq-eqb (k .ordinal) page h, names, f)
+
+    pub same-name : (g : ℕ) (r : Reason) → t ≡ true → g ≡ getD rows (128 + j) 0 → r ≡ reasonOf (gapTest (gapAt g) (k .gap)) → r ≡ reasonOf (glyphTest page (wantedIn q rows j) (keyIn s k))
+    same-name g r f c p = rw (eq-eqb (k .ordinal) page h, names, f, p, c)
+
+pub ruleset glyph-tests = (other-page, other-name, same-name, needs)

@@ -1,0 +1,43 @@
+-- One record against one glyph of the query, as the code holds them.
+use Prim.Native.Nat.{ℕ, zero, suc, _+_, _<_}
+use mathlib.Core.List.{List}
+use mathlib.Core.Option.{Option, none, some}
+use mathlib.Core.Path.{_≡_}
+use lib.ListN.{length, getD}
+use Rattle.rules.specs.declared.Record.{Record}
+use Rattle.rules.specs.Find.{Gap, anyGap, noGap, someGap, Wanted, otherPage, otherName, gapPresent, gapAbsent, glyphTest}
+use Rattle.rules.specs.Find.{Key as RulesKey, Reason as RulesReason}
+use Rattle.laws_find.specs.Occurs.{wantedAt}
+use Rattle.query.specs.Parts.{partIn}
+use Rattle.find_match.specs.declared.Key.{Key}
+use Rattle.find_match.specs.declared.Reason.{Reason}
+use Rattle.find_match.specs.declared.Reason.the-variants as R
+
+-- what finding looks at in a record whose name stands in the stream
+abbrev pub keyIn : List ℕ → Key → RulesKey
+keyIn s k = record { name = partIn s (k .place) (k .len); gap = k .gap; ordinal = k .ordinal }
+
+abbrev pub keyOf : Record → Key
+keyOf r = record { ordinal = r .ordinal; gap = r .gap; place = r .place; len = r .len }
+
+-- the row of the query has 193 places: the places of its names, from 64 on their lengths, from 128 on what each glyph asks of the
+-- gap mark, and at 192 how many glyphs there are
+abbrev pub gapAt : ℕ → Gap
+gapAt zero = anyGap
+gapAt (suc zero) = noGap
+gapAt (suc (suc n)) = someGap
+
+abbrev pub wantedIn : List ℕ → List ℕ → ℕ → Wanted
+wantedIn q rows j = record { gap = gapAt (getD rows (128 + j) 0); name = partIn q (getD rows j 0) (getD rows (64 + j) 0) }
+
+-- the row holds the glyphs of the query
+pub record RowOf (q : List ℕ) (qs : List Wanted) (rows : List ℕ) : Type 0 where
+  pub size : length rows ≡ 193
+  pub each : (j : ℕ) → j < length qs → wantedIn q rows j ≡ wantedAt qs j
+
+abbrev pub reasonOf : Option RulesReason → Reason
+reasonOf none = R.Fits
+reasonOf (some otherPage) = R.OtherPage
+reasonOf (some otherName) = R.OtherName
+reasonOf (some gapPresent) = R.GapPresent
+reasonOf (some gapAbsent) = R.GapAbsent

@@ -1,2 +1,0 @@
-pub mod Finder
-pub mod Demand

@@ -1,9 +1,0 @@
-use Rattle.outlined.proofs.Moves.{step-laws}
-use Rattle.outlined.proofs.step.Statement.{statement}
-use Rattle.outlined.proofs.step.Tie as tie
-
-pub step-spec : {M : Type 1} → statement M
-step-spec =
-    tie.close
-    (tie.spec
-    (λ c κs. search step-laws) (λ c. search step-laws) (λ c κs. search step-laws) (λ c κs. search step-laws) (λ c. search step-laws) (λ c κs. search step-laws) (λ c κs. search step-laws) (λ c. search step-laws))

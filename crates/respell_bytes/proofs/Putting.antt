@@ -1,0 +1,77 @@
+-- One byte and one part of the stream, written: in the form in which `search` applies it at a need.
+use Prim.Native.Nat.{ℕ, zero, suc, _+_, _-_, _^_, _≤_, _<_}
+use native.Mathlib.Omega.{arith}
+use mathlib.Core.List.{List}
+use mathlib.Core.Path.{_≡_, refl, sym, ap, _∙_}
+use borrow.Author.Needs.{needs}
+use borrow.Author.Tests.{lt-ltb, le-ltb}
+use lib.ListN.{length, take, drop, set, getD, length-set, drop-of-length-le}
+use lib.Seq.{set-out, take-nil}
+use mir.Syntax.{w64}
+use mir.Val.{Fits}
+use Rattle.laws_scan.proofs.Walk.{cons-at}
+use Rattle.respell_model.specs.Sheet.{Sheet, further, put, putAll}
+use Rattle.respell_model.proofs.Sheets.{putAll-none, putAll-cons, put-length}
+
+pub further-on : (at : ℕ) → at < 16777217 → at + 1 ≡ further at
+further-on at h = rw (lt-ltb at 16777217 h)
+
+pub further-stays : (at : ℕ) → 16777217 ≤ at → at ≡ further at
+further-stays at h = rw (le-ltb at 16777217 h)
+
+abbrev pub sheet : List ℕ → ℕ → Sheet
+sheet o at = record { bytes = o; at = at }
+
+module _ (o : List ℕ) (at b r : ℕ) (e : r ≡ further at) where
+  pub put-in : at < length o → sheet (set o at b) r ≡ put b (sheet o at)
+  put-in h = rw e
+
+  pub put-out : length o ≤ at → sheet o r ≡ put b (sheet o at)
+  put-out h = rw (e, set-out o at b h)
+
+-- what is put keeps the length
+pub put-kept : (o q : List ℕ) (at b r : ℕ) → sheet q r ≡ put b (sheet o at) → length q ≡ length o
+put-kept o q at b r e = ap (λ (p : Sheet). length (p .bytes)) e ∙ length-set o at b
+
+pub all-kept : (t o q : List ℕ) (at r : ℕ) → sheet q r ≡ putAll t (sheet o at) → length q ≡ length o
+all-kept t o q at r e = ap (λ (p : Sheet). length (p .bytes)) e ∙ put-length t (sheet o at)
+
+-- k bytes of s from i on are still to be written at a
+pub record Part (s : List ℕ) (place len : ℕ) (o₀ : List ℕ) (at : ℕ) (o : List ℕ) (a i k : ℕ) : Type 0 where
+  pub whole : putAll (take len (drop place s)) (sheet o₀ at) ≡ putAll (take k (drop i s)) (sheet o a)
+  pub size : length o ≡ length o₀
+
+pub part-start : (s : List ℕ) (place len : ℕ) (o : List ℕ) (at : ℕ) → Part s place len o at o at place len
+part-start s place len o at = record { whole = refl; size = refl }
+
+module _ (s : List ℕ) (place len : ℕ) (o₀ : List ℕ) (at : ℕ) (o : List ℕ) (a i k : ℕ) (v : Part s place len o₀ at o a i k) where
+  pub part-size : length o ≡ length o₀
+  part-size = v .size
+
+  pub part-more : (q : List ℕ) (r : ℕ) → 0 < k → i < length s → sheet q r ≡ put (getD s i 0) (sheet o a) → Part s place len o₀ at q r (i + 1) (k - 1)
+  part-more q r h l e = record {
+    whole = v .whole ∙ go k h;
+    size = put-kept o q a (getD s i 0) r e ∙ v .size;
+  }
+    where
+      go : (k : ℕ) → 0 < k → putAll (take k (drop i s)) (sheet o a) ≡ putAll (take (k - 1) (drop (i + 1) s)) (sheet q r)
+      go zero h = absurd (omega arith)
+      go (suc k) h =
+          let f : suc k - 1 ≡ k = omega arith in
+          rw (cons-at s i l, putAll-cons (getD s i 0) (take k (drop (i + 1) s)) (sheet o a), f, e)
+
+  pub part-over : k ≤ 0 → sheet o a ≡ putAll (take len (drop place s)) (sheet o₀ at)
+  part-over h = sym (v .whole ∙ go k h)
+    where
+      go : (k : ℕ) → k ≤ 0 → putAll (take k (drop i s)) (sheet o a) ≡ sheet o a
+      go zero h = putAll-none (sheet o a)
+      go (suc k) h = absurd (omega arith)
+
+  pub part-end : length s ≤ i → sheet o a ≡ putAll (take len (drop place s)) (sheet o₀ at)
+  part-end h = sym (v .whole ∙ rw (drop-of-length-le s h, take-nil {A = ℕ} k) (putAll-none (sheet o a)))
+
+-- a place within is not the last number
+pub next-fits : (s : List ℕ) (i : ℕ) → i < length s → length s < 2 ^ 64 → Fits w64 (i + 1)
+next-fits s i h l = omega arith
+
+pub ruleset putting = (next-fits, further-on, further-stays, put-in, put-out, put-kept, all-kept, part-start, part-size, part-more, part-over, part-end, needs)

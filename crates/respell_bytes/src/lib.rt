@@ -1,0 +1,73 @@
+// Bytes written to a lent buffer, one after the other. Behind the buffer nothing is written and the place is counted all the same, so
+// that one code measures a spelling and writes it. The count goes no further than one past the longest spelling.
+ghost use mathlib.Core.Path.{_≡_};
+ghost use Prim.Native.Nat.{_<_};
+ghost use lib.ListN.{take, drop};
+ghost use Rattle.rules.specs.House.{decimal};
+ghost use Rattle.respell_model.specs.Sheet.{further, put, putAll, small, signedSmall};
+
+fn further(at: usize) -> usize
+    ensures { λ r. ⌜ r ≡ further at ⌝ }
+{
+    if at < 16_777_217 { at + 1 } else { at }
+}
+
+pub fn put(out: &mut [u8], at: usize, b: u8) -> usize
+    ensures { λ r. ⌜ record { bytes = now (out .exit); at = r } ≡ put b (record { bytes = now (out .entry); at = at }) ⌝ }
+{
+    if at < out.len() {
+        out[at] = b;
+        further(at)
+    } else {
+        further(at)
+    }
+}
+
+// A part of the stream: its place and its length.
+pub fn put_part(out: &mut [u8], at: usize, s: &[u8], place: usize, len: usize) -> usize
+    ensures { λ r. ⌜ record { bytes = now (out .exit); at = r } ≡ putAll (take len (drop place (now (s .entry)))) (record { bytes = now (out .entry); at = at }) ⌝ }
+{
+    let mut a = at;
+    let mut i = place;
+    let mut k = len;
+    while 0 < k && i < s.len() {
+        a = put(out, a, s[i]);
+        i += 1;
+        k -= 1;
+    }
+    a
+}
+
+fn small(n: u32) -> u32
+    ensures { λ r. ⌜ r ≡ small n ⌝ }
+{
+    if n < 100_000_000 { n } else { 0 }
+}
+
+// Its digits, as few as can be.
+pub fn put_decimal(out: &mut [u8], at: usize, n: u32) -> usize
+    ensures { λ r. ⌜ record { bytes = now (out .exit); at = r } ≡ putAll (decimal (small n)) (record { bytes = now (out .entry); at = at }) ⌝ }
+{
+    let mut digits = [0u8; 8];
+    let mut i = 7;
+    let mut m = small(n);
+    while 9 < m {
+        digits[i] = 48 + ((m % 10) as u8);
+        m /= 10;
+        i -= 1;
+    }
+    digits[i] = 48 + (m as u8);
+    put_part(out, at, &digits, i, 8 - i)
+}
+
+// A number that is moved up by 100,000,000.
+pub fn put_signed(out: &mut [u8], at: usize, n: u32) -> usize
+    ensures { λ r. ⌜ record { bytes = now (out .exit); at = r } ≡ putAll (signedSmall n) (record { bytes = now (out .entry); at = at }) ⌝ }
+{
+    if n < 100_000_000 {
+        let a = put(out, at, 45);
+        put_decimal(out, a, 100_000_000 - n)
+    } else {
+        put_decimal(out, at, n - 100_000_000)
+    }
+}

@@ -1,0 +1,5 @@
+pub mod Sheet
+pub mod Lines
+pub mod Command
+pub mod Passes
+pub mod Demand

@@ -1,9 +1,0 @@
-use Rattle.respelling.proofs.Turning.{stepping}
-use Rattle.respelling.proofs.turn.Statement.{statement}
-use Rattle.respelling.proofs.turn.Tie as tie
-
-pub turn-spec : {M : Type 1} → statement M
-turn-spec =
-    tie.close
-    (tie.spec
-    (λ c κs. search stepping) (λ c κs. search stepping) (λ c. search stepping) (λ c κs. search stepping) (λ c. search stepping) (λ c. search stepping) (λ c. search stepping))

@@ -1,0 +1,234 @@
+-- Each form of a control, from the scanners' answers: what is answered at places of the stream is the definitions' draft, closed and
+-- judged. Then the control by its letter.
+use Prim.Native.Nat.{ℕ, _+_, _-_, _≤_, _<_}
+use native.Mathlib.Omega.{arith}
+use native.Mathlib.Nat.{add-zero}
+use mathlib.Core.Bool.{Bool, true, false}
+use mathlib.Core.List.{List, [], _∷_, _++_, map, map-append}
+use mathlib.Core.Path.{_≡_, refl, sym, ap, _∙_}
+use lib.Dec.{leb}
+use lib.ListN.{length, take, drop, getD, drop-of-length-le}
+use lib.Seq.{drop-drop}
+use borrow.Author.Tests.{leb-true, leb-false, eq-eqb, ne-eqb}
+use Rattle.rules.specs.Bytes.{if_then_else_, is, isSpace, isWhite, isNotWhite, spacer, unspaced, string, nameMost, origin, moved, within, Nums, integers}
+use Rattle.rules.specs.Act.{Plain, pause, trailer, height, slant, underline, Act, device, resolution, init, file, mount, plain, raw, stop, just}
+use Rattle.rules.specs.Letters.{Draft, fault, draft, withAll, named, numberNamed}
+use Rattle.rules.specs.Drawing.{closed}
+use Rattle.rules.specs.Controls.{resolutionOf, rawText, rawLength, rawly, control}
+use Rattle.rules.specs.Record.{plainLetter}
+use Rattle.rules.specs.Scan.{limits, plainLimits, outside, isPosition, isPositive, letter}
+use Rattle.laws.proofs.Cases.{on, length-span}
+use Rattle.laws_scan.proofs.Walk.{cons-at}
+use Rattle.scan_command.specs.View.{actOf, draftOf, letterAt}
+use Rattle.scan_command.specs.declared.Command.{Command}
+use Rattle.scan_command.specs.declared.Command.the-variants as K
+use Rattle.scan_command.proofs.Shift.{shifted, integers-shift}
+use Rattle.scan_lex.specs.At.{runEnd, oneAt, threeAt}
+use Rattle.scan_lex.specs.declared.One.{One}
+use Rattle.scan_lex.specs.declared.One.the-variants as A
+use Rattle.scan_lex.specs.declared.Three.{Three}
+use Rattle.scan_lex.specs.declared.Three.the-variants as C
+use Rattle.scan_lex.proofs.Runs.{unspaced-at}
+use Rattle.scan_lex.proofs.Nums.{OneNums, one-nums, ThreeNums, three-nums}
+use Rattle.scan_controls.specs.Parts.{namedTo, nameFrom, nameTo, nameBy, deviceAt, fileAt, mountedAt, mountBy, mountAt, plainBy, plainAt, resolutionBy, resolutionAt, textAt, rawAt}
+use Rattle.scan_close.specs.Closed.{withinOr, endedAt}
+use Rattle.scan_close.proofs.Places.{answered, short-back, nums-back, within-cut}
+use Rattle.scan_controls.proofs.Places.{draft-is, closed-is, outside-more, answer-cut}
+
+-- ---- a string
+
+module _ (s : List ℕ) (p e : ℕ) (h : e ≡ runEnd isNotWhite s p) where
+  len-is : string (drop p s) ≡ e - p
+  unfolding runEnd
+  len-is = omega (arith, h)
+
+  take-is : length (take (e - p) (drop p s)) ≡ e - p
+  take-is = rw (← len-is) (length-span isNotWhite (drop p s))
+
+-- a string behind arguments that begin at ks, and at ps in the stream; it is due from i on
+module _ (s : List ℕ) (at k i : ℕ) (g : at + k ≡ i) (ks ps : List ℕ) (m : map (λ (k : ℕ). at + k) ks ≡ ps) (f : List ℕ → Act) where
+  abbrev from : ℕ
+  from = nameFrom s i
+
+  abbrev till : ℕ
+  till = nameTo s i
+
+  abbrev name : List ℕ
+  name = take (till - from) (drop from s)
+
+  start-is : at + (k + spacer (drop i s)) ≡ from
+  unfolding runEnd
+  start-is = omega (arith, g)
+
+  places-are : map (λ (k : ℕ). at + k) (ks ++ (k + spacer (drop i s)) ∷ []) ≡ ps ++ from ∷ []
+  places-are = rw (map-append, m, start-is)
+
+  string-none : till ≤ from → named (λ n. just (f n)) ks k (drop i s) ≡ fault 4
+  unfolding named
+  string-none l = rw (unspaced-at s i, eq-eqb (string (drop from s)) 0 (omega (arith, len-is s from till refl)))
+
+  string-some : from < till
+      → named (λ n. just (f n)) ks k (drop i s) ≡ draft (just (f name)) [] (ks ++ (k + spacer (drop i s)) ∷ []) (k + spacer (drop i s)) (k + spacer (drop i s) + (till - from)) (drop till s)
+  unfolding named
+  string-some l =
+      let z : from + (till - from) ≡ till = omega arith in
+      rw (unspaced-at s i, ne-eqb (string (drop from s)) 0 (λ z. omega (arith, len-is s from till refl)), len-is s from till refl, drop-drop (till - from) from s, z)
+
+  named-is : length (limits (f name)) ≤ length (ps ++ from ∷ [])
+      → draftOf at (closed (named (λ n. just (f n)) ks k (drop i s))) ≡ namedTo s at from till (answered (actOf from till (f name)) (outside (limits (f name)) (ps ++ from ∷ [])))
+  unfolding namedTo
+  named-is l =
+      on (leb till from)
+      (λ e. rw (e, string-none (leb-true till from e), add-zero))
+      (λ e.
+      let z : at + (k + spacer (drop i s) + (till - from)) ≡ till = omega (arith, start-is, leb-false till from e) in
+      rw (e, string-some (leb-false till from e))
+      (closed-is at s (f name) (ks ++ (k + spacer (drop i s)) ∷ []) (ps ++ from ∷ []) (k + spacer (drop i s)) (k + spacer (drop i s) + (till - from)) till places-are l z
+      ∙ rw start-is))
+
+-- a name alone: `T`, `F`
+name-is : (f : List ℕ → Act) (v : ℕ → ℕ → ℕ → Command) (s : List ℕ) (at k i : ℕ) → at + k ≡ i
+    → ((n : List ℕ) → limits (f n) ≡ leb (length n) nameMost ∷ []) → ((p e : ℕ) (n : List ℕ) → actOf p e (f n) ≡ v p (length n) e)
+    → draftOf at (closed (named (λ n. just (f n)) [] k (drop i s))) ≡ nameBy v s at (nameFrom s i) (nameTo s i)
+name-is f v s at k i g l a =
+    let p : ℕ = nameFrom s i in
+    let e : ℕ = nameTo s i in
+    let n : List ℕ = take (e - p) (drop p s) in
+    named-is s at k i g [] [] refl f (rw (l n) (omega arith))
+    ∙ ap (namedTo s at p e) (rw (l n, a p e n, take-is s p e refl) (outside-more (v p (e - p) e) (leb (e - p) nameMost) [] p []))
+
+-- ---- integers, the first of them from the place at + k on
+
+module _ (s : List ℕ) (at k : ℕ) where
+  one-shape : OneNums s (shifted at (integers 1 k (drop (at + k) s))) (oneAt s (at + k))
+  one-shape = rw (← (integers-shift 1 at k (drop (at + k) s))) (one-nums s (at + k))
+
+  three-shape : ThreeNums s (shifted at (integers 3 k (drop (at + k) s))) (threeAt s (at + k))
+  three-shape = rw (← (integers-shift 3 at k (drop (at + k) s))) (three-nums s (at + k))
+
+module _ (s : List ℕ) (at : ℕ) where
+  -- one integer from lo to hi, which the answer has not: `H`, `S`, `u`
+  plain-by : (c : Plain) (lo hi : ℕ) → hi < 200000000 → ((n : ℕ) → plainLimits c (n ∷ []) ≡ within lo hi n ∷ [])
+      → (x : Nums) (q : One) → OneNums s (shifted at x) q → draftOf at (closed (withAll (plain c) x)) ≡ plainBy (plainLetter c) lo hi s at q
+  plain-by c lo hi u l x A.Short h = rw (short-back at x h, add-zero)
+  plain-by c lo hi u l x (A.Read a pa n) h =
+      let b = nums-back at x (h .first ∷ []) (pa ∷ []) n (drop n s) (h .are) in
+      let m : ℕ = moved (h .first) in
+      rw (b .are, h .size1, within-cut lo hi m u)
+      (closed-is at s (plain c (m ∷ [])) (b .places) (pa ∷ []) 0 (b .end) n (b .from) (rw (l m) (omega arith)) (b .to)
+      ∙ ap (endedAt s at n) (rw (l m) (outside-more (K.Plain (plainLetter c) n) (within lo hi m) [] pa [])))
+
+  -- `r`
+  resolution-by : (x : Nums) (q : Three) → ThreeNums s (shifted at x) q → draftOf at (closed (resolutionOf x)) ≡ resolutionBy s at q
+  resolution-by x C.Short h = rw (short-back at x h, add-zero)
+  resolution-by x (C.Read a b c pa pb pc n) h =
+      let d = nums-back at x (h .first ∷ h .second ∷ h .third ∷ []) (pa ∷ pb ∷ pc ∷ []) n (drop n s) (h .are) in
+      let i : ℕ = moved (h .first) in
+      let j : ℕ = moved (h .second) in
+      let k : ℕ = moved (h .third) in
+      rw (d .are, h .size1, h .size2, h .size3)
+      (closed-is at s (resolution i j k) (d .places) (pa ∷ pb ∷ pc ∷ []) 0 (d .end) n (d .from) (omega arith) (d .to)
+      ∙ ap (endedAt s at n)
+      (outside-more (K.Resolution (j - origin) n) (isPositive i) (isPositive j ∷ isPositive k ∷ []) pa (pb ∷ pc ∷ [])
+      ∙ rw (outside-more (K.Resolution (j - origin) n) (isPositive j) (isPositive k ∷ []) pb (pc ∷ []), outside-more (K.Resolution (j - origin) n) (isPositive k) [] pc [], within-cut 100000001 199999999 i (omega arith), within-cut 100000001 199999999 k (omega arith))
+      (ap (withinOr (isPositive i) pa) (answer-cut 100000001 199999999 j (omega arith) pb (λ y. withinOr (isPositive k) pc (K.Resolution (y - origin) n))))))
+
+  -- `f`
+  mount-by : (x : Nums) (q : One) → OneNums s (shifted at x) q → draftOf at (closed (numberNamed (λ n m. just (mount n m)) x)) ≡ mountBy s at q
+  unfolding mountedAt
+  mount-by x A.Short h = rw (short-back at x h, add-zero)
+  mount-by x (A.Read a pa n) h =
+      let b = nums-back at x (h .first ∷ []) (pa ∷ []) n (drop n s) (h .are) in
+      let m : ℕ = moved (h .first) in
+      let p : ℕ = nameFrom s n in
+      let e : ℕ = nameTo s n in
+      let c : ℕ → Command = λ y. K.Mount (y - origin) p (e - p) e in
+      rw (b .are, h .size1)
+      (named-is s at (b .end) n (b .to) (b .places) (pa ∷ []) (b .from) (mount m) (omega arith)
+      ∙ ap (namedTo s at p e)
+      (rw (take-is s p e refl)
+      (outside-more (c m) (isPosition m) (leb (e - p) nameMost ∷ []) pa (p ∷ [])
+      ∙ rw (outside-more (c m) (leb (e - p) nameMost) [] p [])
+      (answer-cut 100000000 100000255 m (omega arith) pa (λ y. withinOr (leb (e - p) nameMost) p (c y))))))
+
+-- ---- by the letter, the word ending k bytes behind the command's first
+
+module _ (s : List ℕ) (at k : ℕ) where
+  alone-is : (a : Act) → limits a ≡ [] → draftOf at (closed (draft (just a) [] [] 0 k (drop (at + k) s))) ≡ endedAt s at (at + k) (actOf (at + 0) (at + k) a)
+  alone-is a l = closed-is at s a [] [] 0 k (at + k) refl (rw l (omega arith)) refl ∙ rw l
+
+  plain-is : (c : Plain) (lo hi : ℕ) → hi < 200000000 → ((n : ℕ) → plainLimits c (n ∷ []) ≡ within lo hi n ∷ [])
+      → draftOf at (closed (withAll (plain c) (integers 1 k (drop (at + k) s)))) ≡ plainAt (plainLetter c) lo hi s at (at + k)
+  unfolding plainAt
+  plain-is c lo hi u l = plain-by s at c lo hi u l (integers 1 k (drop (at + k) s)) (oneAt s (at + k)) (one-shape s at k)
+
+  raw-is : draftOf at (rawly (k + spacer (drop (at + k) s)) (unspaced (drop (at + k) s))) ≡ rawAt s (at + k)
+  unfolding rawAt textAt
+  raw-is =
+      let p : ℕ = runEnd isSpace s (at + k) in
+      let j : ℕ = k + spacer (drop (at + k) s) in
+      let z : at + j ≡ p = start-is s at k (at + k) refl [] [] refl device in
+      let r : List ℕ = drop p s in
+      let y : at + (j + rawLength r) ≡ p + rawLength r = omega (arith, z) in
+      rw (unspaced-at s (at + k))
+      (draft-is at (raw (rawText r)) (j ∷ []) (p ∷ []) 0 (j + rawLength r) (p + rawLength r) (drop (rawLength r) r) (rw z) (omega arith) y
+      ∙ outside-more (K.Raw (p + rawLength r)) (leb (length (rawText r)) 4096) [] p [])
+
+abbrev pub byControl : ℕ → List ℕ → ℕ → ℕ → Command
+byControl b s at j =
+    if is "T" b then deviceAt s at j else
+    if is "r" b then resolutionAt s at j else
+    if is "i" b then endedAt s at j (K.Init j) else
+    if is "F" b then fileAt s at j else
+    if is "f" b then mountAt s at j else
+    if is "H" b then plainAt 72 1 199999999 s at j else
+    if is "S" b then plainAt 83 1 199999999 s at j else
+    if is "p" b then endedAt s at j (K.Plain 112 j) else
+    if is "t" b then endedAt s at j (K.Plain 116 j) else
+    if is "u" b then plainAt 117 100000000 100000001 s at j else
+    if is "s" b then endedAt s at j (K.Stop j) else
+    if is "X" b then rawAt s j else
+    K.Refused 3 at
+
+if-alike : {A : Type 0} {R : Type 0} (f : A → R) (t : Bool) (u v : A) (x y : R) → f u ≡ x → f v ≡ y → f (if t then u else v) ≡ (if t then x else y)
+if-alike f true u v x y p q = p
+if-alike f false u v x y p q = q
+
+control-is : (b : ℕ) (s : List ℕ) (at k : ℕ) → draftOf at (control b k (drop (at + k) s)) ≡ byControl b s at (at + k)
+unfolding control deviceAt fileAt mountAt resolutionAt integers
+control-is b s at k =
+    let f : Draft → Command = λ d. draftOf at d in
+    if-alike f (is "T" b) _ _ _ _ (name-is device K.Device s at k (at + k) refl (λ n. refl) (λ p e n. refl))
+    (if-alike f (is "r" b) _ _ _ _ (resolution-by s at (integers 3 k (drop (at + k) s)) (threeAt s (at + k)) (three-shape s at k))
+    (if-alike f (is "i" b) _ _ _ _ (alone-is s at k init refl)
+    (if-alike f (is "F" b) _ _ _ _ (name-is file K.File s at k (at + k) refl (λ n. refl) (λ p e n. refl))
+    (if-alike f (is "f" b) _ _ _ _ (mount-by s at (integers 1 k (drop (at + k) s)) (oneAt s (at + k)) (one-shape s at k))
+    (if-alike f (is "H" b) _ _ _ _ (plain-is s at k height 1 199999999 (omega arith) (λ n. refl))
+    (if-alike f (is "S" b) _ _ _ _ (plain-is s at k slant 1 199999999 (omega arith) (λ n. refl))
+    (if-alike f (is "p" b) _ _ _ _ (alone-is s at k (plain pause []) refl)
+    (if-alike f (is "t" b) _ _ _ _ (alone-is s at k (plain trailer []) refl)
+    (if-alike f (is "u" b) _ _ _ _ (plain-is s at k underline 100000000 100000001 (omega arith) (λ n. refl))
+    (if-alike f (is "s" b) _ _ _ _ (alone-is s at k stop refl)
+    (if-alike f (is "X" b) _ _ _ _ (raw-is s at k) (rw add-zero))))))))))))
+
+-- ---- by the word at i, which ends at j
+
+abbrev pub byWord : ℕ → List ℕ → ℕ → ℕ → Command
+byWord b s at j = if isWhite b then K.Refused 3 at else byControl b s at j
+
+module _ (s : List ℕ) (at i : ℕ) (p : i ≡ runEnd isSpace s (at + 1)) where
+  pub word-none : length s ≤ i → K.Refused 3 at ≡ letterAt 120 s at
+  unfolding letterAt letter
+  word-none h = sym (rw (unspaced-at s (at + 1), ← p, drop-of-length-le s h, add-zero))
+
+  pub word-is : i < length s → (j : ℕ) → j ≡ runEnd isNotWhite s (i + 1) → letterAt 120 s at ≡ byWord (getD s i 0) s at j
+  unfolding letterAt letter runEnd
+  word-is h j q =
+      let b : ℕ = getD s i 0 in
+      let n : ℕ = string (drop (i + 1) s) in
+      let k : ℕ = 1 + spacer (drop (at + 1) s) + 1 + n in
+      let z : at + k ≡ j = omega (arith, p, q) in
+      let y : i + 1 + n ≡ at + k = omega (arith, p) in
+      let d : drop n (drop (i + 1) s) ≡ drop (at + k) s = drop-drop n (i + 1) s ∙ rw y in
+      rw (unspaced-at s (at + 1), ← p, cons-at s i h, d, ← z)
+      (if-alike (λ (x : Draft). draftOf at x) (isWhite b) (fault 3) (control b k (drop (at + k) s)) (K.Refused 3 at) (byControl b s at (at + k)) (rw add-zero) (control-is b s at k))

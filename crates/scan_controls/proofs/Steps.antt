@@ -1,0 +1,109 @@
+-- The answer of each return, in the form in which `search` applies it, and the ruleset by which it answers every need of this crate.
+use Prim.Native.Nat.{ℕ, _+_, _-_, _≤_, _<_}
+use mathlib.Core.Bool.{Bool}
+use mathlib.Core.List.{List}
+use mathlib.Core.Path.{_≡_, sym, _∙_}
+use lib.Dec.{leb}
+use lib.ListN.{length, getD}
+use borrow.Author.Needs.{needs}
+use borrow.Author.Tests.{ne-eqb, le-leb, lt-leb}
+use Rattle.rules.specs.Bytes.{isSpace, isWhite, isNotWhite, within}
+use Rattle.rules.specs.Scan.{isPosition, isPositive}
+use Rattle.laws.proofs.Cases.{on}
+use Rattle.scan_command.specs.View.{letterAt}
+use Rattle.scan_command.specs.declared.Command.{Command}
+use Rattle.scan_command.specs.declared.Command.the-variants as K
+use Rattle.scan_lex.specs.At.{runEnd, oneAt, threeAt}
+use Rattle.scan_lex.specs.declared.One.{One}
+use Rattle.scan_lex.specs.declared.One.the-variants as A
+use Rattle.scan_lex.specs.declared.Three.{Three}
+use Rattle.scan_lex.specs.declared.Three.the-variants as C
+use Rattle.scan_lex.proofs.Runs.{run-from}
+use Rattle.scan_close.specs.Closed.{withinOr, endedAt}
+use Rattle.scan_controls.specs.Parts.{namedTo, shortName, deviceAt, fileAt, mountedAt, mountAt, plainAt, resolutionAt, textAt, rawAt}
+use Rattle.scan_controls.specs.declared.Text.{Text}
+use Rattle.scan_controls.proofs.Forms.{byWord, word-none, word-is}
+use Rattle.scan_controls.proofs.Texts.{step-over, step-byte, step-plus, step-end, text-start, text-stop, text-more, text-less, place-fits, length-fits}
+
+-- ---- names
+
+module _ (s : List ℕ) (at p e : ℕ) (c : Command) where
+  pub named-none : e ≤ p → K.Refused 4 at ≡ namedTo s at p e c
+  unfolding namedTo
+  named-none l = rw (le-leb e p l)
+
+  pub named-some : (r : Command) → p < e → r ≡ endedAt s at e c → r ≡ namedTo s at p e c
+  unfolding namedTo
+  named-some r l f = rw (f, lt-leb e p l)
+
+pub name-order : (s : List ℕ) (p e : ℕ) → e ≡ runEnd isNotWhite s p → p ≤ e
+name-order s p e h = rw h (run-from isNotWhite s p)
+
+module _ (s : List ℕ) (at i p e : ℕ) (r x : Command) (g : p ≡ runEnd isSpace s i) (h : e ≡ runEnd isNotWhite s p) where
+  pub device-is : x ≡ shortName p (e - p) (K.Device p (e - p) e) → r ≡ namedTo s at p e x → r ≡ deviceAt s at i
+  unfolding deviceAt
+  device-is k f = rw (f, k, ← g, ← h)
+
+  pub file-is : x ≡ shortName p (e - p) (K.File p (e - p) e) → r ≡ namedTo s at p e x → r ≡ fileAt s at i
+  unfolding fileAt
+  file-is k f = rw (f, k, ← g, ← h)
+
+  pub mounted-is : (a pa n : ℕ) (t : Bool) (y : Command) → n ≡ a - 100000000 → t ≡ isPosition a → y ≡ shortName p (e - p) (K.Mount n p (e - p) e)
+      → x ≡ withinOr t pa y → r ≡ namedTo s at p e x → r ≡ mountedAt a pa s at i
+  unfolding mountedAt
+  mounted-is a pa n t y m v k l f = rw (f, l, k, v, m, ← g, ← h)
+
+-- ---- integers
+
+module _ (s : List ℕ) (at i : ℕ) (q : One) (g : q ≡ oneAt s i) where
+  pub mount-short : q ≡ A.Short → K.Refused 4 at ≡ mountAt s at i
+  unfolding mountAt
+  mount-short h = rw (← g, h)
+
+  pub mount-read : (a pa n : ℕ) (r : Command) → q ≡ A.Read a pa n → r ≡ mountedAt a pa s at n → r ≡ mountAt s at i
+  unfolding mountAt
+  mount-read a pa n r h f = rw (f, ← g, h)
+
+  module _ (letter lo hi : ℕ) where
+    pub plain-short : q ≡ A.Short → K.Refused 4 at ≡ plainAt letter lo hi s at i
+    unfolding plainAt
+    plain-short h = rw (← g, h)
+
+    pub plain-read : (a pa n : ℕ) (t : Bool) (r x : Command) → q ≡ A.Read a pa n → t ≡ within lo hi a → x ≡ withinOr t pa (K.Plain letter n)
+        → r ≡ endedAt s at n x → r ≡ plainAt letter lo hi s at i
+    unfolding plainAt
+    plain-read a pa n t r x h v k f = rw (f, k, v, ← g, h)
+
+module _ (s : List ℕ) (at i : ℕ) (q : Three) (g : q ≡ threeAt s i) where
+  pub resolution-short : q ≡ C.Short → K.Refused 4 at ≡ resolutionAt s at i
+  unfolding resolutionAt
+  resolution-short h = rw (← g, h)
+
+  pub resolution-read : (a b c pa pb pc n : ℕ) → q ≡ C.Read a b c pa pb pc n → (m : ℕ) (t u v : Bool) (r x y z : Command) → m ≡ b - 100000000
+      → t ≡ isPositive a → u ≡ isPositive b → v ≡ isPositive c
+      → z ≡ withinOr v pc (K.Resolution m n) → y ≡ withinOr u pb z → x ≡ withinOr t pa y → r ≡ endedAt s at n x → r ≡ resolutionAt s at i
+  unfolding resolutionAt
+  resolution-read a b c pa pb pc n h m t u v r x y z d e1 e2 e3 f3 f2 f1 f = rw (f, f1, f2, f3, e1, e2, e3, d, ← g, h)
+
+-- ---- the text
+
+pub raw-is : (s : List ℕ) (i p : ℕ) (t : Text) (r : Command) → p ≡ runEnd isSpace s i → t ≡ textAt s p → r ≡ withinOr (leb (t .len) 4096) p (K.Raw (t .next)) → r ≡ rawAt s i
+unfolding rawAt
+raw-is s i p t r g h f = rw (f, h, ← g)
+
+-- ---- the letter
+
+module _ (s : List ℕ) (at i : ℕ) (p : i ≡ runEnd isSpace s (at + 1)) (h : i < length s) (j : ℕ) (q : j ≡ runEnd isNotWhite s (i + 1)) where
+  pub by-letter : (k : ℕ) (r : Command) → getD s i 0 ≡ k → r ≡ byWord k s at j → r ≡ letterAt 120 s at
+  by-letter k r e f = f ∙ sym (word-is s at i p h j q ∙ rw e)
+
+pub no-letter : (s : List ℕ) (at i j : ℕ) → i ≡ runEnd isSpace s (at + 1) → i < length s → j ≡ runEnd isNotWhite s (i + 1)
+    → ((((((((((((Unit {0} × (getD s i 0 ≡ 84 → ⊥)) × (getD s i 0 ≡ 114 → ⊥)) × (getD s i 0 ≡ 105 → ⊥)) × (getD s i 0 ≡ 70 → ⊥)) × (getD s i 0 ≡ 102 → ⊥)) × (getD s i 0 ≡ 72 → ⊥)) × (getD s i 0 ≡ 83 → ⊥)) × (getD s i 0 ≡ 112 → ⊥)) × (getD s i 0 ≡ 116 → ⊥)) × (getD s i 0 ≡ 117 → ⊥)) × (getD s i 0 ≡ 115 → ⊥)) × (getD s i 0 ≡ 88 → ⊥))
+    → K.Refused 3 at ≡ letterAt 120 s at
+no-letter s at i j p h q n =
+    let b : ℕ = getD s i 0 in
+    sym (word-is s at i p h j q
+    ∙ rw (ne-eqb b 84 (n .0 .0 .0 .0 .0 .0 .0 .0 .0 .0 .0 .1), ne-eqb b 114 (n .0 .0 .0 .0 .0 .0 .0 .0 .0 .0 .1), ne-eqb b 105 (n .0 .0 .0 .0 .0 .0 .0 .0 .0 .1), ne-eqb b 70 (n .0 .0 .0 .0 .0 .0 .0 .0 .1), ne-eqb b 102 (n .0 .0 .0 .0 .0 .0 .0 .1), ne-eqb b 72 (n .0 .0 .0 .0 .0 .0 .1), ne-eqb b 83 (n .0 .0 .0 .0 .0 .1), ne-eqb b 112 (n .0 .0 .0 .0 .1), ne-eqb b 116 (n .0 .0 .0 .1), ne-eqb b 117 (n .0 .0 .1), ne-eqb b 115 (n .0 .1), ne-eqb b 88 (n .1))
+    (on (isWhite b) (λ w. rw w) (λ w. rw w)))
+
+pub ruleset steps = (named-none, named-some, name-order, device-is, file-is, mounted-is, mount-short, mount-read, plain-short, plain-read, resolution-short, resolution-read, step-over, step-byte, step-plus, step-end, text-start, text-stop, text-more, text-less, place-fits, length-fits, raw-is, word-none, by-letter, no-letter, needs)

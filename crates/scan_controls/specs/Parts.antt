@@ -1,0 +1,92 @@
+-- What the parts of the control scanner answer, at places of the whole list.
+use Prim.Native.Nat.{ℕ, _+_, _-_}
+use mathlib.Core.List.{List, [], _∷_}
+use lib.Dec.{leb}
+use lib.ListN.{length, drop}
+use Rattle.rules.specs.Bytes.{if_then_else_, is, isSpace, isNotWhite, nameMost, origin, within}
+use Rattle.rules.specs.Controls.{rawText, rawLength}
+use Rattle.rules.specs.Scan.{isPosition, isPositive}
+use Rattle.scan_command.specs.declared.Command.{Command}
+use Rattle.scan_command.specs.declared.Command.the-variants as K
+use Rattle.scan_lex.specs.At.{runEnd, oneAt, threeAt}
+use Rattle.scan_lex.specs.declared.One.{One}
+use Rattle.scan_lex.specs.declared.One.the-variants as A
+use Rattle.scan_lex.specs.declared.Three.{Three}
+use Rattle.scan_lex.specs.declared.Three.the-variants as C
+use Rattle.scan_close.specs.Closed.{withinOr, endedAt}
+use Rattle.scan_controls.specs.declared.Text.{Text}
+
+-- ---- of the command at a place, the arguments from i on
+
+-- the string from p to e is the last argument
+unfoldable pub namedTo : List ℕ → ℕ → ℕ → ℕ → Command → Command
+namedTo s at p e c = if leb e p then K.Refused 4 at else endedAt s at e c
+
+-- the string at p has n bytes
+abbrev pub shortName : ℕ → ℕ → Command → Command
+shortName p n c = withinOr (leb n nameMost) p c
+
+-- where the string behind a spacer begins and ends
+abbrev pub nameFrom : List ℕ → ℕ → ℕ
+nameFrom s i = runEnd isSpace s i
+
+abbrev pub nameTo : List ℕ → ℕ → ℕ
+nameTo s i = runEnd isNotWhite s (nameFrom s i)
+
+abbrev pub nameBy : (ℕ → ℕ → ℕ → Command) → List ℕ → ℕ → ℕ → ℕ → Command
+nameBy f s at p e = namedTo s at p e (shortName p (e - p) (f p (e - p) e))
+
+unfoldable pub deviceAt : List ℕ → ℕ → ℕ → Command
+deviceAt s at i = nameBy K.Device s at (nameFrom s i) (nameTo s i)
+
+unfoldable pub fileAt : List ℕ → ℕ → ℕ → Command
+fileAt s at i = nameBy K.File s at (nameFrom s i) (nameTo s i)
+
+-- the number a begins at pa
+abbrev pub mountedTo : ℕ → ℕ → List ℕ → ℕ → ℕ → ℕ → Command
+mountedTo a pa s at p e = namedTo s at p e (withinOr (isPosition a) pa (shortName p (e - p) (K.Mount (a - origin) p (e - p) e)))
+
+unfoldable pub mountedAt : ℕ → ℕ → List ℕ → ℕ → ℕ → Command
+mountedAt a pa s at i = mountedTo a pa s at (nameFrom s i) (nameTo s i)
+
+abbrev pub mountBy : List ℕ → ℕ → One → Command
+mountBy s at A.Short = K.Refused 4 at
+mountBy s at (A.Read a pa n) = mountedAt a pa s at n
+
+unfoldable pub mountAt : List ℕ → ℕ → ℕ → Command
+mountAt s at i = mountBy s at (oneAt s i)
+
+abbrev pub plainBy : ℕ → ℕ → ℕ → List ℕ → ℕ → One → Command
+plainBy letter lo hi s at A.Short = K.Refused 4 at
+plainBy letter lo hi s at (A.Read a pa n) = endedAt s at n (withinOr (within lo hi a) pa (K.Plain letter n))
+
+unfoldable pub plainAt : ℕ → ℕ → ℕ → List ℕ → ℕ → ℕ → Command
+plainAt letter lo hi s at i = plainBy letter lo hi s at (oneAt s i)
+
+abbrev pub resolutionBy : List ℕ → ℕ → Three → Command
+resolutionBy s at C.Short = K.Refused 4 at
+resolutionBy s at (C.Read a b c pa pb pc n) =
+    endedAt s at n (withinOr (isPositive a) pa (withinOr (isPositive b) pb (withinOr (isPositive c) pc (K.Resolution (b - origin) n))))
+
+unfoldable pub resolutionAt : List ℕ → ℕ → ℕ → Command
+resolutionAt s at i = resolutionBy s at (threeAt s i)
+
+-- ---- the text of `x X`
+
+-- how many bytes its next byte takes, 0 where it ends
+abbrev pub textStepOf : List ℕ → ℕ
+textStepOf [] = 0
+textStepOf (b ∷ []) = if is "\n" b then 0 else 1
+textStepOf (b ∷ c ∷ r) = if is "\n" b then (if is "+" c then 2 else 0) else 1
+
+unfoldable pub stepAt : List ℕ → ℕ → ℕ
+stepAt s i = textStepOf (drop i s)
+
+unfoldable pub textAt : List ℕ → ℕ → Text
+textAt s at = record { len = length (rawText (drop at s)); next = at + rawLength (drop at s) }
+
+abbrev pub rawBy : ℕ → Text → Command
+rawBy p t = withinOr (leb (t .len) 4096) p (K.Raw (t .next))
+
+unfoldable pub rawAt : List ℕ → ℕ → Command
+rawAt s i = rawBy (runEnd isSpace s i) (textAt s (runEnd isSpace s i))

@@ -1,0 +1,48 @@
+-- What the parts of the commands of one letter answer, at places of the whole stream.
+use Prim.Native.Nat.{ℕ, _+_}
+use mathlib.Core.List.{List}
+use lib.Dec.{leb}
+use lib.ListN.{drop}
+use Rattle.rules.specs.Bytes.{if_then_else_, isSpace, isNotWhite, within, near}
+use Rattle.rules.specs.Letters.{whiteNext}
+use Rattle.scan_command.specs.declared.Command.{Command}
+use Rattle.scan_command.specs.declared.Command.the-variants.{Word, Refused}
+use Rattle.scan_lex.specs.At.{runEnd, oneAt, perhapsAt}
+use Rattle.scan_lex.specs.declared.One.{One}
+use Rattle.scan_lex.specs.declared.One.the-variants as A
+use Rattle.scan_lex.specs.declared.Perhaps.{Perhaps}
+use Rattle.scan_lex.specs.declared.Perhaps.the-variants as P
+use Rattle.scan_letters.specs.declared.Argument.{Argument}
+use Rattle.scan_letters.specs.declared.Argument.the-variants.{Good, Wrong}
+use Rattle.scan_letters.specs.declared.Dummy.{Dummy}
+use Rattle.scan_letters.specs.declared.Dummy.the-variants.{Fine, Outside, Malformed}
+
+-- the one integer of the command at a place, from lo to hi
+abbrev pub argumentOf : ℕ → ℕ → ℕ → One → Argument
+argumentOf lo hi at A.Short = Wrong 4 at
+argumentOf lo hi at (A.Read a pa e) = if within lo hi a then Good a e else Wrong 6 pa
+
+unfoldable pub argumentAt : ℕ → ℕ → List ℕ → ℕ → Argument
+argumentAt lo hi s at = argumentOf lo hi at (oneAt s (at + 1))
+
+-- the dummy behind a word that ends at a place
+abbrev pub dummyOf : List ℕ → Perhaps → Dummy
+dummyOf s P.Short = Malformed
+dummyOf s (P.Absent e) = Fine e
+dummyOf s (P.Read a pa e) = if whiteNext (drop e s) then (if near a then Fine e else Outside pa) else Malformed
+
+unfoldable pub dummyAt : List ℕ → ℕ → Dummy
+dummyAt s at = dummyOf s (perhapsAt s at)
+
+-- of the command at a place: the word from p to e, with its dummy, and a number that stands at pa
+unfoldable pub wordWith : ℕ → ℕ → ℕ → ℕ → ℕ → Dummy → Command
+wordWith track pa p e at Malformed = Refused 4 at
+wordWith track pa p e at (Outside k) = if near track then Refused 6 k else Refused 6 pa
+wordWith track pa p e at (Fine l) = if near track then Word track p e l else Refused 6 pa
+
+abbrev pub wordTo : ℕ → ℕ → ℕ → ℕ → List ℕ → ℕ → Command
+wordTo track pa p e s at = if leb e p then Refused 4 at else wordWith track pa p e at (dummyAt s e)
+
+-- the word stands behind a spacer from i on
+unfoldable pub wordAt : ℕ → ℕ → ℕ → List ℕ → ℕ → Command
+wordAt track pa i s at = let p = runEnd isSpace s i in wordTo track pa p (runEnd isNotWhite s p) s at
