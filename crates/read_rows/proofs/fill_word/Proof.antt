@@ -309,5 +309,5 @@ fill-word-spec 𝓤 H 𝓜 𝓖 𝓡 =
     entered 𝓤 H (tripleOf 𝓤 H (𝓖 .A) f.signature (f.spec 𝓤 H (𝓖 .A) (𝓜 .mem) (𝓡 .run)))
     (tables 𝓤 H 𝓜 𝓡 code.env .C) (tables 𝓤 H 𝓜 𝓡 code.env .Λ) #read-rows·fill-word code.function (code.unfolded 𝓤 H 𝓜 𝓡)
     (fill-meets 𝓤 H (𝓖 .A) (givenOf 𝓤 H 𝓜 𝓖) (𝓜 .mem) (𝓡 .run) (tablesOf 𝓤 H 𝓜 (tables 𝓤 H 𝓜 𝓡 code.env))
-    (cited 𝓤 H (Steps 𝓤 H (𝓖 .A) (𝓜 .mem) (𝓡 .run)) 𝓜 𝓡 code.env #read-effects·word-step word-step-def.routine code.calls-effects·word-step (word-step-thm.met 𝓤 H 𝓜 𝓖 𝓡))
-    (cited 𝓤 H (Put TG.the-row 𝓤 H (𝓖 .A)) 𝓜 𝓡 code.env #read-rows·put-record put-record-def.routine code.calls-rows·put-record (put-record-thm.met 𝓤 H 𝓜 𝓖 𝓡)))
+    (cited 𝓤 H (Steps 𝓤 H (𝓖 .A) (𝓜 .mem) (𝓡 .run)) 𝓜 𝓡 code.env #read-effects·word-step word-step-def.routine code.calls-read-effects·word-step (word-step-thm.met 𝓤 H 𝓜 𝓖 𝓡))
+    (cited 𝓤 H (Put TG.the-row 𝓤 H (𝓖 .A)) 𝓜 𝓡 code.env #read-rows·put-record put-record-def.routine code.calls-read-rows·put-record (put-record-thm.met 𝓤 H 𝓜 𝓖 𝓡)))

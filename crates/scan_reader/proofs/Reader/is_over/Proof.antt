@@ -22,4 +22,4 @@ is-over-spec 𝓤 H 𝓜 𝓖 𝓡 =
     entered 𝓤 H (tripleOf 𝓤 H (𝓖 .A) f.signature (f.spec 𝓤 H (𝓖 .A) (𝓜 .mem) (𝓡 .run)))
     (tables 𝓤 H 𝓜 𝓡 code.env .C) (tables 𝓤 H 𝓜 𝓡 code.env .Λ) #scan-reader·is-over code.function (code.unfolded 𝓤 H 𝓜 𝓡)
     (thin-meets bool tyBool (λ s at. leb (length s) at) work-def.name 𝓤 (λ s at. emp 𝓤) H (𝓖 .A) (givenOf 𝓤 H 𝓜 𝓖) (λ r u is. bool-lawful 𝓤 H (𝓖 .A) (givenOf 𝓤 H 𝓜 𝓖) .typed r _ is .0) (tablesOf 𝓤 H 𝓜 (tables 𝓤 H 𝓜 𝓡 code.env))
-    (cited 𝓤 H (Work bool (λ s at. leb (length s) at) 𝓤 (λ s at. emp 𝓤) H (𝓖 .A)) 𝓜 𝓡 code.env work-def.name work-def.routine code.calls-cursor·over-at (work-thm.met 𝓤 H 𝓜 𝓖 𝓡)))
+    (cited 𝓤 H (Work bool (λ s at. leb (length s) at) 𝓤 (λ s at. emp 𝓤) H (𝓖 .A)) 𝓜 𝓡 code.env work-def.name work-def.routine code.calls-scan-reader·over-at (work-thm.met 𝓤 H 𝓜 𝓖 𝓡)))
