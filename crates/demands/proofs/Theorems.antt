@@ -18,7 +18,7 @@ use Rattle.rules.specs.Record.{GlyphRow, Answer, refuse, answer, follow, seen}
 use Rattle.rules.specs.House.{played, spelling, spellAll}
 use Rattle.rules.specs.Find.{Wanted, Key, key, hitsFrom, Query, illFormed, wellFormed, query}
 use Rattle.rules.specs.Answers.{streamMost, isOver, read, isAccepted, Spelling, notSpelled, spelled, spellIf, spellWith, respell, Found, notFound, found, keyOf, hitsIn, findAsked, findWith, find, readInto, respellInto, findInto}
-use Rattle.laws.proofs.Cases.{on, no}
+use Rattle.laws.proofs.Cases.{on, no, or-true}
 use Rattle.laws.proofs.Good.{AllGood}
 use Rattle.laws_read.specs.Outline.{Sign, byteSign, signsOf, outline, keysFrom}
 use Rattle.laws_read.proofs.Runs.{well}
@@ -504,10 +504,6 @@ roomy = record {
 }
 
 -- ---- limits
-
-or-true : (a b : Bool) → b ≡ true → (a || b) ≡ true
-or-true true b h = refl
-or-true false b h = h
 
 -- the limit of a spelling
 short-spelling : (s list : List ℕ) (w : Widths) → widthList list ≡ sound w → Accepted s list → length (houseText w s) ≤ 16_777_216 → respell s list ≡ spelled (houseText w s)
