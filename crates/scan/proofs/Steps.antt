@@ -1,12 +1,11 @@
 -- The letter of a command decides.
-use Prim.Native.Nat.{ℕ, _+_, _≤_, _<_}
+use Prim.Native.Nat.{ℕ, _≤_, _<_}
 use native.Mathlib.Omega.{arith}
 use native.Mathlib.Nat.{add-zero}
-use mathlib.Core.Bool.{Bool, true, false, _&&_}
+use mathlib.Core.Bool.{true, false}
 use mathlib.Core.List.{List, [], _∷_}
-use mathlib.Core.Path.{_≡_, refl, sym, ap, _∙_}
-use lib.Dec.{leb, eqb}
-use lib.ListN.{length, drop, getD}
+use mathlib.Core.Path.{_≡_, sym, ap}
+use lib.ListN.{getD}
 use borrow.Author.Needs.{needs}
 use borrow.Author.Tests.{ne-eqb, le-leb, lt-leb}
 use Rattle.rules.specs.Bytes.{isDigit}
@@ -14,6 +13,7 @@ use Rattle.rules.specs.Scan.{letter}
 use Rattle.scan_command.specs.declared.Command.{Command}
 use Rattle.scan_command.specs.declared.Command.the-variants as C
 use Rattle.scan_command.specs.View.{letterAt, commandAt}
+use Rattle.scan_close.proofs.Letters.{Unlike}
 
 -- the command at a place is that of its letter
 pub by-letter : (s : List ℕ) (at k : ℕ) (r : Command) → getD s at 0 ≡ k → r ≡ letterAt k s at → r ≡ commandAt s at
@@ -27,11 +27,7 @@ by-digit s at r f = f
 pub is-digit : (b : ℕ) → 48 ≤ b → b < 58 → isDigit b ≡ true
 is-digit b l h = rw (le-leb 48 b l, le-leb b 57 (omega arith))
 
--- none of the letters: the facts as the `match` has them, the first arm's innermost
-abbrev Unlike : ℕ → List ℕ → Type 0
-Unlike b [] = Unit {0}
-Unlike b (k ∷ ks) = Unlike b ks × (b ≡ k → ⊥)
-
+-- the letters, from the last arm of the `match` to the first
 abbrev letters : List ℕ
 letters = 120 ∷ 68 ∷ 119 ∷ 110 ∷ 109 ∷ 115 ∷ 102 ∷ 112 ∷ 118 ∷ 86 ∷ 104 ∷ 72 ∷ 117 ∷ 116 ∷ 78 ∷ 67 ∷ 99 ∷ []
 

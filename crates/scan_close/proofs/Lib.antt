@@ -1,1 +1,4 @@
 pub mod Places
+pub mod Arguments
+pub mod Names
+pub mod Letters

@@ -1,23 +1,26 @@
 -- A command closed and judged: from places of the command to places of the stream, and a limit's test of a number that is cut.
-use Prim.Native.Nat.{ℕ, _+_, _≤_, _<_}
+use Prim.Native.Nat.{ℕ, _+_, _-_, _≤_, _<_}
 use native.Mathlib.Omega.{arith}
 use mathlib.Core.Bool.{Bool, true, false, and-false}
 use mathlib.Core.List.{List, [], _∷_, map}
 use mathlib.Core.Option.{Option, none, some}
 use mathlib.Core.Path.{_≡_, refl, sym, _∙_}
 use borrow.Author.Needs.{needs}
-use borrow.Author.Tests.{lt-leb, leb-true, leb-false}
+use borrow.Author.Tests.{le-leb, lt-leb, leb-true, leb-false}
 use lib.Dec.{leb}
-use lib.ListN.{length}
-use Rattle.rules.specs.Bytes.{Num, within, Nums, short, nums}
+use lib.ListN.{length, drop}
+use Rattle.rules.specs.Bytes.{Num, moved, origin, most, within, near, Nums, short, nums, integers}
 use Rattle.rules.specs.Act.{Cmd}
-use Rattle.rules.specs.Scan.{outside, judgedBy}
+use Rattle.rules.specs.Scan.{outside, judgedBy, isSmall}
 use Rattle.laws.proofs.Cases.{on, and-right}
 use Rattle.scan_command.specs.View.{cmdOf, commandOf}
 use Rattle.scan_command.specs.declared.Command.{Command}
 use Rattle.scan_command.specs.declared.Command.the-variants.{Refused}
-use Rattle.scan_command.proofs.Shift.{shifted}
-use Rattle.scan_lex.specs.At.{cut, breaksAt}
+use Rattle.scan_command.proofs.Shift.{shifted, integers-shift}
+use Rattle.scan_lex.specs.At.{breaksAt}
+use Rattle.scan_integer.specs.At.{cut}
+use Rattle.scan_arguments.specs.At.{oneAt, twoAt, threeAt}
+use Rattle.scan_arguments.proofs.Nums.{OneNums, one-nums, TwoNums, two-nums, ThreeNums, three-nums}
 use Rattle.scan_close.specs.Closed.{withinOr, endedAt}
 
 -- ---- what the code answers
@@ -45,6 +48,17 @@ pub record Back (at : ℕ) (x : Nums) (ns : List Num) (ps : List ℕ) (n : ℕ) 
   pub are : x ≡ nums ns places end t
   pub from : map (λ (k : ℕ). at + k) places ≡ ps
   pub to : at + end ≡ n
+
+-- the integers of the command at a place, the first of them from k bytes behind it on, as the scanners answer them
+module _ (s : List ℕ) (at k : ℕ) where
+  pub one-shape : OneNums s (shifted at (integers 1 k (drop (at + k) s))) (oneAt s (at + k))
+  one-shape = rw (← (integers-shift 1 at k (drop (at + k) s))) (one-nums s (at + k))
+
+  pub two-shape : TwoNums s (shifted at (integers 2 k (drop (at + k) s))) (twoAt s (at + k))
+  two-shape = rw (← (integers-shift 2 at k (drop (at + k) s))) (two-nums s (at + k))
+
+  pub three-shape : ThreeNums s (shifted at (integers 3 k (drop (at + k) s))) (threeAt s (at + k))
+  three-shape = rw (← (integers-shift 3 at k (drop (at + k) s))) (three-nums s (at + k))
 
 -- an answer, or a refusal of the argument that begins at a place
 abbrev pub answered : Command → Option ℕ → Command
@@ -86,3 +100,20 @@ module _ (lo hi m : ℕ) (h : hi < 200000000) where
 
   pub within-uncut : within lo hi m ≡ true → cut m ≡ m
   within-uncut e = omega (arith, leb-true m hi (and-right (leb lo m) (leb m hi) e))
+
+-- an ignored number is judged as any other
+small-by : (m : Bool) (k : ℕ) → near (moved (record { neg = m; mag = k })) ≡ leb k most
+small-by true k =
+    on (leb k most)
+    (λ e. let h : k ≤ most = leb-true k most e in rw (e, le-leb 1 (origin - k) (omega arith), le-leb (origin - k) (origin + most) (omega arith)))
+    (λ e. let h : most < k = leb-false k most e in rw (e, lt-leb 1 (origin - k) (omega arith)))
+small-by false k =
+    on (leb k most)
+    (λ e. let h : k ≤ most = leb-true k most e in rw (e, le-leb 1 (origin + k) (omega arith), le-leb (origin + k) (origin + most) (omega arith)))
+    (λ e. let h : most < k = leb-false k most e in rw (e, le-leb 1 (origin + k) (omega arith), lt-leb (origin + k) (origin + most) (omega arith)))
+
+pub near-small : (n : Num) → near (moved n) ≡ isSmall n
+near-small n = small-by (n .neg) (n .mag)
+
+pub cut-small : (n : Num) → near (cut (moved n)) ≡ isSmall n
+cut-small n = within-cut 1 199999999 (moved n) (omega arith) ∙ near-small n

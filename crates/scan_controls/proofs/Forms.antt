@@ -3,13 +3,12 @@
 use Prim.Native.Nat.{ℕ, _+_, _-_, _≤_, _<_}
 use native.Mathlib.Omega.{arith}
 use native.Mathlib.Nat.{add-zero}
-use mathlib.Core.Bool.{Bool, true, false}
 use mathlib.Core.List.{List, [], _∷_, _++_, map, map-append}
 use mathlib.Core.Path.{_≡_, refl, sym, ap, _∙_}
 use lib.Dec.{leb}
 use lib.ListN.{length, take, drop, getD, drop-of-length-le}
 use lib.Seq.{drop-drop}
-use borrow.Author.Tests.{leb-true, leb-false, eq-eqb, ne-eqb}
+use borrow.Author.Tests.{leb-true, leb-false}
 use Rattle.rules.specs.Bytes.{if_then_else_, is, isSpace, isWhite, isNotWhite, spacer, unspaced, string, nameMost, origin, moved, within, Nums, integers}
 use Rattle.rules.specs.Act.{Plain, pause, trailer, height, slant, underline, Act, device, resolution, init, file, mount, plain, raw, stop, just}
 use Rattle.rules.specs.Letters.{Draft, fault, draft, withAll, named, numberNamed}
@@ -17,33 +16,29 @@ use Rattle.rules.specs.Drawing.{closed}
 use Rattle.rules.specs.Controls.{resolutionOf, rawText, rawLength, rawly, control}
 use Rattle.rules.specs.Record.{plainLetter}
 use Rattle.rules.specs.Scan.{limits, plainLimits, outside, isPosition, isPositive, letter}
-use Rattle.laws.proofs.Cases.{on, length-span}
+use Rattle.laws.proofs.Cases.{on}
 use Rattle.laws_scan.proofs.Walk.{cons-at}
 use Rattle.scan_command.specs.View.{actOf, draftOf, letterAt}
 use Rattle.scan_command.specs.declared.Command.{Command}
 use Rattle.scan_command.specs.declared.Command.the-variants as K
-use Rattle.scan_command.proofs.Shift.{shifted, integers-shift}
-use Rattle.scan_lex.specs.At.{runEnd, oneAt, threeAt}
-use Rattle.scan_lex.specs.declared.One.{One}
-use Rattle.scan_lex.specs.declared.One.the-variants as A
-use Rattle.scan_lex.specs.declared.Three.{Three}
-use Rattle.scan_lex.specs.declared.Three.the-variants as C
+use Rattle.scan_command.proofs.Shift.{shifted}
+use Rattle.scan_lex.specs.At.{runEnd}
+use Rattle.scan_arguments.specs.At.{oneAt, threeAt}
+use Rattle.scan_arguments.specs.declared.One.{One}
+use Rattle.scan_arguments.specs.declared.One.the-variants as A
+use Rattle.scan_arguments.specs.declared.Three.{Three}
+use Rattle.scan_arguments.specs.declared.Three.the-variants as C
 use Rattle.scan_lex.proofs.Runs.{unspaced-at}
-use Rattle.scan_lex.proofs.Nums.{OneNums, one-nums, ThreeNums, three-nums}
-use Rattle.scan_controls.specs.Parts.{namedTo, nameFrom, nameTo, nameBy, deviceAt, fileAt, mountedAt, mountBy, mountAt, plainBy, plainAt, resolutionBy, resolutionAt, textAt, rawAt}
+use Rattle.scan_arguments.proofs.Nums.{OneNums, ThreeNums}
+use Rattle.scan_controls.specs.Parts.{namedTo, nameFrom, nameTo, nameBy, deviceAt, fileAt, mountedAt, mountBy, mountAt, plainBy, plainAt, resolutionBy, resolutionAt}
 use Rattle.scan_close.specs.Closed.{withinOr, endedAt}
-use Rattle.scan_close.proofs.Places.{answered, short-back, nums-back, within-cut}
+use Rattle.scan_close.proofs.Places.{one-shape, three-shape, answered, short-back, nums-back, within-cut}
+use Rattle.scan_close.proofs.Names.{take-is, named-none, named-some}
+use Rattle.scan_close.proofs.Letters.{if-alike}
+use Rattle.scan_raw.specs.Parts.{textAt, rawAt}
 use Rattle.scan_controls.proofs.Places.{draft-is, closed-is, outside-more, answer-cut}
 
 -- ---- a string
-
-module _ (s : List ℕ) (p e : ℕ) (h : e ≡ runEnd isNotWhite s p) where
-  len-is : string (drop p s) ≡ e - p
-  unfolding runEnd
-  len-is = omega (arith, h)
-
-  take-is : length (take (e - p) (drop p s)) ≡ e - p
-  take-is = rw (← len-is) (length-span isNotWhite (drop p s))
 
 -- a string behind arguments that begin at ks, and at ps in the stream; it is due from i on
 module _ (s : List ℕ) (at k i : ℕ) (g : at + k ≡ i) (ks ps : List ℕ) (m : map (λ (k : ℕ). at + k) ks ≡ ps) (f : List ℕ → Act) where
@@ -63,26 +58,15 @@ module _ (s : List ℕ) (at k i : ℕ) (g : at + k ≡ i) (ks ps : List ℕ) (m 
   places-are : map (λ (k : ℕ). at + k) (ks ++ (k + spacer (drop i s)) ∷ []) ≡ ps ++ from ∷ []
   places-are = rw (map-append, m, start-is)
 
-  string-none : till ≤ from → named (λ n. just (f n)) ks k (drop i s) ≡ fault 4
-  unfolding named
-  string-none l = rw (unspaced-at s i, eq-eqb (string (drop from s)) 0 (omega (arith, len-is s from till refl)))
-
-  string-some : from < till
-      → named (λ n. just (f n)) ks k (drop i s) ≡ draft (just (f name)) [] (ks ++ (k + spacer (drop i s)) ∷ []) (k + spacer (drop i s)) (k + spacer (drop i s) + (till - from)) (drop till s)
-  unfolding named
-  string-some l =
-      let z : from + (till - from) ≡ till = omega arith in
-      rw (unspaced-at s i, ne-eqb (string (drop from s)) 0 (λ z. omega (arith, len-is s from till refl)), len-is s from till refl, drop-drop (till - from) from s, z)
-
   named-is : length (limits (f name)) ≤ length (ps ++ from ∷ [])
       → draftOf at (closed (named (λ n. just (f n)) ks k (drop i s))) ≡ namedTo s at from till (answered (actOf from till (f name)) (outside (limits (f name)) (ps ++ from ∷ [])))
   unfolding namedTo
   named-is l =
       on (leb till from)
-      (λ e. rw (e, string-none (leb-true till from e), add-zero))
+      (λ e. rw (e, named-none s from till refl (λ n. just (f n)) ks k i refl (leb-true till from e), add-zero))
       (λ e.
       let z : at + (k + spacer (drop i s) + (till - from)) ≡ till = omega (arith, start-is, leb-false till from e) in
-      rw (e, string-some (leb-false till from e))
+      rw (e, named-some s from till refl (λ n. just (f n)) ks k i refl (leb-false till from e))
       (closed-is at s (f name) (ks ++ (k + spacer (drop i s)) ∷ []) (ps ++ from ∷ []) (k + spacer (drop i s)) (k + spacer (drop i s) + (till - from)) till places-are l z
       ∙ rw start-is))
 
@@ -97,14 +81,7 @@ name-is f v s at k i g l a =
     named-is s at k i g [] [] refl f (rw (l n) (omega arith))
     ∙ ap (namedTo s at p e) (rw (l n, a p e n, take-is s p e refl) (outside-more (v p (e - p) e) (leb (e - p) nameMost) [] p []))
 
--- ---- integers, the first of them from the place at + k on
-
-module _ (s : List ℕ) (at k : ℕ) where
-  one-shape : OneNums s (shifted at (integers 1 k (drop (at + k) s))) (oneAt s (at + k))
-  one-shape = rw (← (integers-shift 1 at k (drop (at + k) s))) (one-nums s (at + k))
-
-  three-shape : ThreeNums s (shifted at (integers 3 k (drop (at + k) s))) (threeAt s (at + k))
-  three-shape = rw (← (integers-shift 3 at k (drop (at + k) s))) (three-nums s (at + k))
+-- ---- integers
 
 module _ (s : List ℕ) (at : ℕ) where
   -- one integer from lo to hi, which the answer has not: `H`, `S`, `u`
@@ -190,26 +167,22 @@ byControl b s at j =
     if is "X" b then rawAt s j else
     K.Refused 3 at
 
-if-alike : {A : Type 0} {R : Type 0} (f : A → R) (t : Bool) (u v : A) (x y : R) → f u ≡ x → f v ≡ y → f (if t then u else v) ≡ (if t then x else y)
-if-alike f true u v x y p q = p
-if-alike f false u v x y p q = q
-
-control-is : (b : ℕ) (s : List ℕ) (at k : ℕ) → draftOf at (control b k (drop (at + k) s)) ≡ byControl b s at (at + k)
+control-is : (b : ℕ) (s : List ℕ) (at k : ℕ) → byControl b s at (at + k) ≡ draftOf at (control b k (drop (at + k) s))
 unfolding control deviceAt fileAt mountAt resolutionAt integers
 control-is b s at k =
     let f : Draft → Command = λ d. draftOf at d in
-    if-alike f (is "T" b) _ _ _ _ (name-is device K.Device s at k (at + k) refl (λ n. refl) (λ p e n. refl))
-    (if-alike f (is "r" b) _ _ _ _ (resolution-by s at (integers 3 k (drop (at + k) s)) (threeAt s (at + k)) (three-shape s at k))
-    (if-alike f (is "i" b) _ _ _ _ (alone-is s at k init refl)
-    (if-alike f (is "F" b) _ _ _ _ (name-is file K.File s at k (at + k) refl (λ n. refl) (λ p e n. refl))
-    (if-alike f (is "f" b) _ _ _ _ (mount-by s at (integers 1 k (drop (at + k) s)) (oneAt s (at + k)) (one-shape s at k))
-    (if-alike f (is "H" b) _ _ _ _ (plain-is s at k height 1 199999999 (omega arith) (λ n. refl))
-    (if-alike f (is "S" b) _ _ _ _ (plain-is s at k slant 1 199999999 (omega arith) (λ n. refl))
-    (if-alike f (is "p" b) _ _ _ _ (alone-is s at k (plain pause []) refl)
-    (if-alike f (is "t" b) _ _ _ _ (alone-is s at k (plain trailer []) refl)
-    (if-alike f (is "u" b) _ _ _ _ (plain-is s at k underline 100000000 100000001 (omega arith) (λ n. refl))
-    (if-alike f (is "s" b) _ _ _ _ (alone-is s at k stop refl)
-    (if-alike f (is "X" b) _ _ _ _ (raw-is s at k) (rw add-zero))))))))))))
+    if-alike f (is "T" b) _ _ _ _ (sym (name-is device K.Device s at k (at + k) refl (λ n. refl) (λ p e n. refl)))
+    (if-alike f (is "r" b) _ _ _ _ (sym (resolution-by s at (integers 3 k (drop (at + k) s)) (threeAt s (at + k)) (three-shape s at k)))
+    (if-alike f (is "i" b) _ _ _ _ (sym (alone-is s at k init refl))
+    (if-alike f (is "F" b) _ _ _ _ (sym (name-is file K.File s at k (at + k) refl (λ n. refl) (λ p e n. refl)))
+    (if-alike f (is "f" b) _ _ _ _ (sym (mount-by s at (integers 1 k (drop (at + k) s)) (oneAt s (at + k)) (one-shape s at k)))
+    (if-alike f (is "H" b) _ _ _ _ (sym (plain-is s at k height 1 199999999 (omega arith) (λ n. refl)))
+    (if-alike f (is "S" b) _ _ _ _ (sym (plain-is s at k slant 1 199999999 (omega arith) (λ n. refl)))
+    (if-alike f (is "p" b) _ _ _ _ (sym (alone-is s at k (plain pause []) refl))
+    (if-alike f (is "t" b) _ _ _ _ (sym (alone-is s at k (plain trailer []) refl))
+    (if-alike f (is "u" b) _ _ _ _ (sym (plain-is s at k underline 100000000 100000001 (omega arith) (λ n. refl)))
+    (if-alike f (is "s" b) _ _ _ _ (sym (alone-is s at k stop refl))
+    (if-alike f (is "X" b) _ _ _ _ (sym (raw-is s at k)) (rw add-zero))))))))))))
 
 -- ---- by the word at i, which ends at j
 
@@ -231,4 +204,4 @@ module _ (s : List ℕ) (at i : ℕ) (p : i ≡ runEnd isSpace s (at + 1)) where
       let y : i + 1 + n ≡ at + k = omega (arith, p) in
       let d : drop n (drop (i + 1) s) ≡ drop (at + k) s = drop-drop n (i + 1) s ∙ rw y in
       rw (unspaced-at s (at + 1), ← p, cons-at s i h, d, ← z)
-      (if-alike (λ (x : Draft). draftOf at x) (isWhite b) (fault 3) (control b k (drop (at + k) s)) (K.Refused 3 at) (byControl b s at (at + k)) (rw add-zero) (control-is b s at k))
+      (sym (if-alike (λ (x : Draft). draftOf at x) (isWhite b) (K.Refused 3 at) (byControl b s at (at + k)) (fault 3) (control b k (drop (at + k) s)) (rw add-zero) (control-is b s at k)))

@@ -13,7 +13,8 @@ use Rattle.rules.specs.Scan.{limits, outside}
 use Rattle.laws.proofs.Cases.{on}
 use Rattle.scan_command.specs.View.{actOf, draftOf}
 use Rattle.scan_command.specs.declared.Command.{Command}
-use Rattle.scan_lex.specs.At.{cut, breaksAt}
+use Rattle.scan_lex.specs.At.{breaksAt}
+use Rattle.scan_integer.specs.At.{cut}
 use Rattle.scan_close.specs.Closed.{withinOr, endedAt}
 use Rattle.scan_close.proofs.Places.{answered, judged-at, within-cut, within-uncut}
 

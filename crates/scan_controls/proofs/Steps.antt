@@ -1,9 +1,8 @@
 -- The answer of each return, in the form in which `search` applies it, and the ruleset by which it answers every need of this crate.
 use Prim.Native.Nat.{ℕ, _+_, _-_, _≤_, _<_}
 use mathlib.Core.Bool.{Bool}
-use mathlib.Core.List.{List}
+use mathlib.Core.List.{List, [], _∷_}
 use mathlib.Core.Path.{_≡_, sym, _∙_}
-use lib.Dec.{leb}
 use lib.ListN.{length, getD}
 use borrow.Author.Needs.{needs}
 use borrow.Author.Tests.{ne-eqb, le-leb, lt-leb}
@@ -13,17 +12,17 @@ use Rattle.laws.proofs.Cases.{on}
 use Rattle.scan_command.specs.View.{letterAt}
 use Rattle.scan_command.specs.declared.Command.{Command}
 use Rattle.scan_command.specs.declared.Command.the-variants as K
-use Rattle.scan_lex.specs.At.{runEnd, oneAt, threeAt}
-use Rattle.scan_lex.specs.declared.One.{One}
-use Rattle.scan_lex.specs.declared.One.the-variants as A
-use Rattle.scan_lex.specs.declared.Three.{Three}
-use Rattle.scan_lex.specs.declared.Three.the-variants as C
+use Rattle.scan_lex.specs.At.{runEnd}
+use Rattle.scan_arguments.specs.At.{oneAt, threeAt}
+use Rattle.scan_arguments.specs.declared.One.{One}
+use Rattle.scan_arguments.specs.declared.One.the-variants as A
+use Rattle.scan_arguments.specs.declared.Three.{Three}
+use Rattle.scan_arguments.specs.declared.Three.the-variants as C
 use Rattle.scan_lex.proofs.Runs.{run-from}
 use Rattle.scan_close.specs.Closed.{withinOr, endedAt}
-use Rattle.scan_controls.specs.Parts.{namedTo, shortName, deviceAt, fileAt, mountedAt, mountAt, plainAt, resolutionAt, textAt, rawAt}
-use Rattle.scan_controls.specs.declared.Text.{Text}
+use Rattle.scan_close.proofs.Letters.{Unlike}
+use Rattle.scan_controls.specs.Parts.{namedTo, shortName, deviceAt, fileAt, mountedAt, mountAt, plainAt, resolutionAt}
 use Rattle.scan_controls.proofs.Forms.{byWord, word-none, word-is}
-use Rattle.scan_controls.proofs.Texts.{step-over, step-byte, step-plus, step-end, text-start, text-stop, text-more, text-less, place-fits, length-fits}
 
 -- ---- names
 
@@ -85,12 +84,6 @@ module _ (s : List ℕ) (at i : ℕ) (q : Three) (g : q ≡ threeAt s i) where
   unfolding resolutionAt
   resolution-read a b c pa pb pc n h m t u v r x y z d e1 e2 e3 f3 f2 f1 f = rw (f, f1, f2, f3, e1, e2, e3, d, ← g, h)
 
--- ---- the text
-
-pub raw-is : (s : List ℕ) (i p : ℕ) (t : Text) (r : Command) → p ≡ runEnd isSpace s i → t ≡ textAt s p → r ≡ withinOr (leb (t .len) 4096) p (K.Raw (t .next)) → r ≡ rawAt s i
-unfolding rawAt
-raw-is s i p t r g h f = rw (f, h, ← g)
-
 -- ---- the letter
 
 module _ (s : List ℕ) (at i : ℕ) (p : i ≡ runEnd isSpace s (at + 1)) (h : i < length s) (j : ℕ) (q : j ≡ runEnd isNotWhite s (i + 1)) where
@@ -98,7 +91,7 @@ module _ (s : List ℕ) (at i : ℕ) (p : i ≡ runEnd isSpace s (at + 1)) (h : 
   by-letter k r e f = f ∙ sym (word-is s at i p h j q ∙ rw e)
 
 pub no-letter : (s : List ℕ) (at i j : ℕ) → i ≡ runEnd isSpace s (at + 1) → i < length s → j ≡ runEnd isNotWhite s (i + 1)
-    → ((((((((((((Unit {0} × (getD s i 0 ≡ 84 → ⊥)) × (getD s i 0 ≡ 114 → ⊥)) × (getD s i 0 ≡ 105 → ⊥)) × (getD s i 0 ≡ 70 → ⊥)) × (getD s i 0 ≡ 102 → ⊥)) × (getD s i 0 ≡ 72 → ⊥)) × (getD s i 0 ≡ 83 → ⊥)) × (getD s i 0 ≡ 112 → ⊥)) × (getD s i 0 ≡ 116 → ⊥)) × (getD s i 0 ≡ 117 → ⊥)) × (getD s i 0 ≡ 115 → ⊥)) × (getD s i 0 ≡ 88 → ⊥))
+    → Unlike (getD s i 0) (88 ∷ 115 ∷ 117 ∷ 116 ∷ 112 ∷ 83 ∷ 72 ∷ 102 ∷ 70 ∷ 105 ∷ 114 ∷ 84 ∷ [])
     → K.Refused 3 at ≡ letterAt 120 s at
 no-letter s at i j p h q n =
     let b : ℕ = getD s i 0 in
@@ -106,4 +99,4 @@ no-letter s at i j p h q n =
     ∙ rw (ne-eqb b 84 (n .0 .0 .0 .0 .0 .0 .0 .0 .0 .0 .0 .1), ne-eqb b 114 (n .0 .0 .0 .0 .0 .0 .0 .0 .0 .0 .1), ne-eqb b 105 (n .0 .0 .0 .0 .0 .0 .0 .0 .0 .1), ne-eqb b 70 (n .0 .0 .0 .0 .0 .0 .0 .0 .1), ne-eqb b 102 (n .0 .0 .0 .0 .0 .0 .0 .1), ne-eqb b 72 (n .0 .0 .0 .0 .0 .0 .1), ne-eqb b 83 (n .0 .0 .0 .0 .0 .1), ne-eqb b 112 (n .0 .0 .0 .0 .1), ne-eqb b 116 (n .0 .0 .0 .1), ne-eqb b 117 (n .0 .0 .1), ne-eqb b 115 (n .0 .1), ne-eqb b 88 (n .1))
     (on (isWhite b) (λ w. rw w) (λ w. rw w)))
 
-pub ruleset steps = (named-none, named-some, name-order, device-is, file-is, mounted-is, mount-short, mount-read, plain-short, plain-read, resolution-short, resolution-read, step-over, step-byte, step-plus, step-end, text-start, text-stop, text-more, text-less, place-fits, length-fits, raw-is, word-none, by-letter, no-letter, needs)
+pub ruleset steps = (named-none, named-some, name-order, device-is, file-is, mounted-is, mount-short, mount-read, plain-short, plain-read, resolution-short, resolution-read, word-none, by-letter, no-letter, needs)

@@ -1,20 +1,18 @@
 -- What the parts of the control scanner answer, at places of the whole list.
-use Prim.Native.Nat.{ℕ, _+_, _-_}
-use mathlib.Core.List.{List, [], _∷_}
+use Prim.Native.Nat.{ℕ, _-_}
+use mathlib.Core.List.{List}
 use lib.Dec.{leb}
-use lib.ListN.{length, drop}
-use Rattle.rules.specs.Bytes.{if_then_else_, is, isSpace, isNotWhite, nameMost, origin, within}
-use Rattle.rules.specs.Controls.{rawText, rawLength}
+use Rattle.rules.specs.Bytes.{if_then_else_, isSpace, isNotWhite, nameMost, origin, within}
 use Rattle.rules.specs.Scan.{isPosition, isPositive}
 use Rattle.scan_command.specs.declared.Command.{Command}
 use Rattle.scan_command.specs.declared.Command.the-variants as K
-use Rattle.scan_lex.specs.At.{runEnd, oneAt, threeAt}
-use Rattle.scan_lex.specs.declared.One.{One}
-use Rattle.scan_lex.specs.declared.One.the-variants as A
-use Rattle.scan_lex.specs.declared.Three.{Three}
-use Rattle.scan_lex.specs.declared.Three.the-variants as C
+use Rattle.scan_lex.specs.At.{runEnd}
+use Rattle.scan_arguments.specs.At.{oneAt, threeAt}
+use Rattle.scan_arguments.specs.declared.One.{One}
+use Rattle.scan_arguments.specs.declared.One.the-variants as A
+use Rattle.scan_arguments.specs.declared.Three.{Three}
+use Rattle.scan_arguments.specs.declared.Three.the-variants as C
 use Rattle.scan_close.specs.Closed.{withinOr, endedAt}
-use Rattle.scan_controls.specs.declared.Text.{Text}
 
 -- ---- of the command at a place, the arguments from i on
 
@@ -70,23 +68,3 @@ resolutionBy s at (C.Read a b c pa pb pc n) =
 
 unfoldable pub resolutionAt : List ℕ → ℕ → ℕ → Command
 resolutionAt s at i = resolutionBy s at (threeAt s i)
-
--- ---- the text of `x X`
-
--- how many bytes its next byte takes, 0 where it ends
-abbrev pub textStepOf : List ℕ → ℕ
-textStepOf [] = 0
-textStepOf (b ∷ []) = if is "\n" b then 0 else 1
-textStepOf (b ∷ c ∷ r) = if is "\n" b then (if is "+" c then 2 else 0) else 1
-
-unfoldable pub stepAt : List ℕ → ℕ → ℕ
-stepAt s i = textStepOf (drop i s)
-
-unfoldable pub textAt : List ℕ → ℕ → Text
-textAt s at = record { len = length (rawText (drop at s)); next = at + rawLength (drop at s) }
-
-abbrev pub rawBy : ℕ → Text → Command
-rawBy p t = withinOr (leb (t .len) 4096) p (K.Raw (t .next))
-
-unfoldable pub rawAt : List ℕ → ℕ → Command
-rawAt s i = rawBy (runEnd isSpace s i) (textAt s (runEnd isSpace s i))

@@ -1,20 +1,14 @@
 // Controls: the command `x` (document 01, "Controls"). A number is handed on by the leaf scanners as itself + 100,000,000. Refusals at
 // one command are found in the order 3, 4, 5, 6; a refusal 6 is at the first argument outside its limit.
+use scan_arguments::One;
+use scan_arguments::Three;
 use scan_command::Command;
-use scan_lex::One;
-use scan_lex::Three;
 ghost use mathlib.Core.Path.{_≡_};
 ghost use Prim.Native.Nat.{_<_};
 ghost use lib.ListN.{length};
 ghost use Rattle.rules.specs.Scan.{isPosition, isPositive};
 ghost use Rattle.scan_command.specs.View.{letterAt};
-ghost use Rattle.scan_controls.specs.Parts.{namedTo, shortName, deviceAt, fileAt, mountedAt, mountAt, plainAt, resolutionAt, stepAt, textAt, rawAt};
-
-// The text of `x X`: its length, with the newlines that are added, and the place behind its last line.
-struct Text {
-    len: usize,
-    next: usize,
-}
+ghost use Rattle.scan_controls.specs.Parts.{namedTo, shortName, deviceAt, fileAt, mountedAt, mountAt, plainAt, resolutionAt};
 
 // From 1 to 99,999,999.
 fn is_positive(n: u32) -> bool
@@ -80,7 +74,7 @@ fn mounted(s: &[u8], at: usize, i: usize, a: u32, pa: usize) -> Command
     let next = scan_lex::string_end(s, place);
     let len = next - place;
     let c = Command::Mount {
-        position: scan_lex::unmoved(a),
+        position: scan_integer::unmoved(a),
         place,
         len,
         next,
@@ -93,7 +87,7 @@ fn mounted(s: &[u8], at: usize, i: usize, a: u32, pa: usize) -> Command
 fn mount(s: &[u8], at: usize, i: usize) -> Command
     ensures { λ r. ⌜ r ≡ mountAt (now (s .entry)) at i ⌝ }
 {
-    match scan_lex::one_at(s, i) {
+    match scan_arguments::one_at(s, i) {
         One::Short => Command::Refused {
             number: 4,
             place: at,
@@ -106,7 +100,7 @@ fn mount(s: &[u8], at: usize, i: usize) -> Command
 fn plain(s: &[u8], at: usize, i: usize, letter: u32, lo: u32, hi: u32) -> Command
     ensures { λ r. ⌜ r ≡ plainAt letter lo hi (now (s .entry)) at i ⌝ }
 {
-    match scan_lex::one_at(s, i) {
+    match scan_arguments::one_at(s, i) {
         One::Short => Command::Refused {
             number: 4,
             place: at,
@@ -117,7 +111,7 @@ fn plain(s: &[u8], at: usize, i: usize, letter: u32, lo: u32, hi: u32) -> Comman
                 s,
                 at,
                 next,
-                scan_close::within(scan_lex::is_within(lo, hi, a), pa, c),
+                scan_close::within(scan_integer::is_within(lo, hi, a), pa, c),
             )
         }
     }
@@ -127,7 +121,7 @@ fn plain(s: &[u8], at: usize, i: usize, letter: u32, lo: u32, hi: u32) -> Comman
 fn resolution(s: &[u8], at: usize, i: usize) -> Command
     ensures { λ r. ⌜ r ≡ resolutionAt (now (s .entry)) at i ⌝ }
 {
-    match scan_lex::three_at(s, i) {
+    match scan_arguments::three_at(s, i) {
         Three::Short => Command::Refused {
             number: 4,
             place: at,
@@ -142,7 +136,7 @@ fn resolution(s: &[u8], at: usize, i: usize) -> Command
             next,
         } => {
             let all = Command::Resolution {
-                quantum: scan_lex::unmoved(b),
+                quantum: scan_integer::unmoved(b),
                 next,
             };
             let third = scan_close::within(is_positive(c), pc, all);
@@ -154,50 +148,6 @@ fn resolution(s: &[u8], at: usize, i: usize) -> Command
             scan_close::ending(s, at, next, judged)
         }
     }
-}
-
-// How many bytes the text's next byte takes: a newline and the `+` behind it are one. 0 where the text ends.
-fn text_step(s: &[u8], i: usize) -> usize
-    ensures { λ r. ⌜ r ≡ stepAt (now (s .entry)) i ⌝ }
-{
-    if s.len() <= i {
-        return 0;
-    }
-    if s[i] == 10 {
-        if scan_lex::byte_at(s, i + 1) == 43 {
-            2
-        } else {
-            0
-        }
-    } else {
-        1
-    }
-}
-
-// The text from a place on.
-fn text_at(s: &[u8], at: usize) -> Text
-    ensures { λ r. ⌜ r ≡ textAt (now (s .entry)) at ⌝ }
-{
-    let mut len = 0;
-    let mut i = at;
-    loop {
-        let step = text_step(s, i);
-        if step == 0 {
-            return Text { len, next: i };
-        }
-        i += step;
-        len += 1;
-    }
-}
-
-// `X`, for which the rule on line breaks does not hold.
-fn raw(s: &[u8], i: usize) -> Command
-    ensures { λ r. ⌜ r ≡ rawAt (now (s .entry)) i ⌝ }
-{
-    let place = scan_lex::spacer_end(s, i);
-    let t = text_at(s, place);
-    let c = Command::Raw { next: t.next };
-    scan_close::within(t.len <= 4096, place, c)
 }
 
 // The command `x` at a place.
@@ -226,7 +176,7 @@ pub fn control(s: &[u8], at: usize) -> Command
         b't' => scan_close::ending(s, at, next, Command::Plain { letter: 116, next }),
         b'u' => plain(s, at, next, 117, 100_000_000, 100_000_001),
         b's' => scan_close::ending(s, at, next, Command::Stop { next }),
-        b'X' => raw(s, next),
+        b'X' => scan_raw::raw(s, next),
         _ => Command::Refused {
             number: 3,
             place: at,

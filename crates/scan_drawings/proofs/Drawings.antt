@@ -3,60 +3,48 @@
 use Prim.Native.Nat.{ℕ, suc, _+_, _-_, _≤_, _<_}
 use native.Mathlib.Omega.{arith}
 use native.Mathlib.Nat.{add-zero}
-use mathlib.Core.Bool.{Bool, true, false}
 use mathlib.Core.List.{List, [], _∷_, _++_, map, append-nil}
 use mathlib.Core.Option.{Option, none, some}
 use mathlib.Core.Path.{_≡_, refl, sym, ap, _∙_}
 use borrow.Author.Needs.{needs}
-use borrow.Author.Tests.{ne-eqb, leb-true, leb-false, le-leb, lt-leb}
-use lib.Dec.{leb}
+use borrow.Author.Tests.{ne-eqb}
 use lib.ListN.{length, drop, getD, length-map, drop-of-length-le}
-use Rattle.rules.specs.Bytes.{if_then_else_, is, isSpace, spacer, unspaced, origin, most, moved, within, near, Num, Nums, nums, manyIntegers, perhapsInteger}
+use Rattle.rules.specs.Bytes.{if_then_else_, is, isSpace, spacer, unspaced, origin, moved, within, near, Num, Nums, nums, manyIntegers, perhapsInteger}
 use Rattle.rules.specs.Act.{Shape, line, arc, circle, solidCircle, ellipse, solidEllipse, polygon, solidPolygon, spline, thickness, grayFill, colourFill, draw, just}
 use Rattle.rules.specs.Letters.{Draft, draft, withAll, coloured}
 use Rattle.rules.specs.Drawing.{lineEnds, closed, shapeOf, exactly, dummied, paired, formOf, inPairs, dummyBehind, drawn, inShape, drawing, pairwise}
 use Rattle.rules.specs.Record.{shapeLetter}
-use Rattle.rules.specs.Scan.{isGray, isSmall, shapeLimits, upTo, outside}
+use Rattle.rules.specs.Scan.{isSmall, shapeLimits, upTo, outside}
 use Rattle.laws.proofs.Cases.{on}
 use Rattle.laws_scan.proofs.Walk.{cons-at}
 use Rattle.scan_command.specs.View.{drawOf, letterAt}
 use Rattle.scan_command.specs.declared.Command.{Command}
 use Rattle.scan_command.specs.declared.Command.the-variants as K
-use Rattle.scan_lex.specs.At.{cut, runEnd, breaksAt, oneAt, twoAt, fourAt, perhapsAt, polygonAt}
-use Rattle.scan_lex.specs.declared.One.{One}
-use Rattle.scan_lex.specs.declared.One.the-variants as A
-use Rattle.scan_lex.specs.declared.Two.{Two}
-use Rattle.scan_lex.specs.declared.Two.the-variants as B
-use Rattle.scan_lex.specs.declared.Four.{Four}
-use Rattle.scan_lex.specs.declared.Four.the-variants as D
-use Rattle.scan_lex.specs.declared.Perhaps.{Perhaps}
-use Rattle.scan_lex.specs.declared.Perhaps.the-variants as P
-use Rattle.scan_lex.specs.declared.Polygon.{Polygon}
-use Rattle.scan_lex.specs.declared.Polygon.the-variants as G
+use Rattle.scan_lex.specs.At.{runEnd, breaksAt}
+use Rattle.scan_integer.specs.At.{cut}
+use Rattle.scan_arguments.specs.At.{oneAt, twoAt, fourAt, perhapsAt, polygonAt}
+use Rattle.scan_arguments.specs.declared.One.{One}
+use Rattle.scan_arguments.specs.declared.One.the-variants as A
+use Rattle.scan_arguments.specs.declared.Two.{Two}
+use Rattle.scan_arguments.specs.declared.Two.the-variants as B
+use Rattle.scan_arguments.specs.declared.Four.{Four}
+use Rattle.scan_arguments.specs.declared.Four.the-variants as D
+use Rattle.scan_arguments.specs.declared.Perhaps.{Perhaps}
+use Rattle.scan_arguments.specs.declared.Perhaps.the-variants as P
+use Rattle.scan_arguments.specs.declared.Polygon.{Polygon}
+use Rattle.scan_arguments.specs.declared.Polygon.the-variants as G
 use Rattle.scan_lex.proofs.Runs.{unspaced-at}
-use Rattle.scan_lex.proofs.Chains.{ints}
-use Rattle.scan_lex.proofs.Nums.{OneNums, TwoNums, FourNums, PerhapsNums, PolygonNums, one-nums, two-nums, four-nums, perhaps-nums, polygon-nums}
-use Rattle.scan_close.specs.Closed.{withinOr, endedAt}
-use Rattle.scan_drawings.specs.Parts.{componentsAt, downBy, movedAcross, twoBy, twoDrawn, arcBy, arcDrawn, dummyBy, dummyDrawn, roundBy, roundDrawn, oneArgument, thicknessSet, graySet, polygonBy, polygonDrawn, fillSet}
-use Rattle.scan_drawings.specs.declared.Components.{Components}
-use Rattle.scan_drawings.specs.declared.Components.the-variants.{Fault, Over, Read}
-use Rattle.scan_drawings.proofs.Placed.{outsideOr, limited, placedOf, drawing-placed}
-use Rattle.scan_drawings.proofs.Limits.{judgedBy, judge-cut, outside-placed, pairs-even}
-use Rattle.scan_drawings.proofs.Colours.{Unlike, if-alike, fill-is}
-
--- an ignored number is judged as any other
-small-near : (n : Num) → isSmall n ≡ near (moved n)
-small-near n = go (n .neg) (n .mag)
-  where
-    go : (m : Bool) (k : ℕ) → leb k most ≡ near (moved (record { neg = m; mag = k }))
-    go true k =
-        on (leb k most)
-        (λ e. let h : k ≤ most = leb-true k most e in rw (e, le-leb 1 (origin - k) (omega arith), le-leb (origin - k) (origin + most) (omega arith)))
-        (λ e. let h : most < k = leb-false k most e in rw (e, lt-leb 1 (origin - k) (omega arith)))
-    go false k =
-        on (leb k most)
-        (λ e. let h : k ≤ most = leb-true k most e in rw (e, le-leb 1 (origin + k) (omega arith), le-leb (origin + k) (origin + most) (omega arith)))
-        (λ e. let h : most < k = leb-false k most e in rw (e, le-leb 1 (origin + k) (omega arith), lt-leb (origin + k) (origin + most) (omega arith)))
+use Rattle.scan_arguments.proofs.Chains.{ints}
+use Rattle.scan_arguments.proofs.Nums.{OneNums, TwoNums, FourNums, PerhapsNums, PolygonNums, one-nums, two-nums, four-nums, perhaps-nums, polygon-nums}
+use Rattle.scan_close.specs.Closed.{endedAt}
+use Rattle.scan_shapes.specs.Parts.{downBy, movedAcross, twoBy, twoDrawn, arcBy, arcDrawn, dummyBy, dummyDrawn, roundBy, roundDrawn, oneArgument, thicknessSet, graySet, polygonBy, polygonDrawn}
+use Rattle.scan_close.proofs.Places.{near-small}
+use Rattle.scan_close.proofs.Letters.{Unlike, if-alike}
+use Rattle.scan_colours.specs.Parts.{fillSet}
+use Rattle.scan_colours.proofs.Placed.{outsideOr, limited, placedOf}
+use Rattle.scan_colours.proofs.Limits.{judgedBy, judge-cut, outside-placed}
+use Rattle.scan_colours.proofs.Colours.{fill-is}
+use Rattle.scan_drawings.proofs.Placed.{drawing-placed, pairs-even}
 
 length-upTo : (k : ℕ) (ns : List ℕ) → length (upTo k ns) ≡ length ns
 length-upTo k [] = refl
@@ -115,7 +103,7 @@ module _ (s : List ℕ) (at : ℕ) (sh : Shape) where
         (ap (endedAt s at n) (judged 1 199999999 (omega arith) (λ ns. movedAcross (shapeLetter sh) (getD ns 0 0) n) (a ∷ []) (k ∷ []) refl))
     dummy-are a k l (P.Read x m n) h =
         let b : ℕ = moved (h .first) in
-        rw (h .are, h .size1, ended-by (a ∷ []) (h .first ∷ []) (k ∷ m ∷ []) n, f a n .0, f a n .1, small-near (h .first))
+        rw (h .are, h .size1, ended-by (a ∷ []) (h .first ∷ []) (k ∷ m ∷ []) n, f a n .0, f a n .1, ← (near-small (h .first)))
         (ap (endedAt s at n) (judged 1 199999999 (omega arith) (λ ns. movedAcross (shapeLetter sh) (getD ns 0 0) n) (a ∷ b ∷ []) (k ∷ m ∷ []) refl))
 
     round-are : (i : ℕ) → formOf sh ≡ dummied → roundDrawn (shapeLetter sh) s at i ≡ placedOf at (closed (drawn sh i (drop i s) (formOf sh)))
@@ -236,101 +224,4 @@ module _ (s : List ℕ) (at i : ℕ) (p : i ≡ runEnd isSpace s (at + 1)) where
         let b : ℕ = getD s i 0 in
         rw (ne-eqb b 70 (n .1), ne-eqb b 108 (n .0 .0 .0 .0 .0 .0 .0 .0 .0 .0 .0 .1), ne-eqb b 97 (n .0 .0 .0 .0 .0 .0 .0 .0 .0 .0 .1), ne-eqb b 99 (n .0 .0 .0 .0 .0 .0 .0 .0 .0 .1), ne-eqb b 67 (n .0 .0 .0 .0 .0 .0 .0 .0 .1), ne-eqb b 101 (n .0 .0 .0 .0 .0 .0 .0 .1), ne-eqb b 69 (n .0 .0 .0 .0 .0 .0 .1), ne-eqb b 112 (n .0 .0 .0 .0 .0 .1), ne-eqb b 80 (n .0 .0 .0 .0 .1), ne-eqb b 126 (n .0 .0 .0 .1), ne-eqb b 116 (n .0 .0 .1), ne-eqb b 102 (n .0 .1)) at letter-is
 
--- ---- the drawings' parts
-
-pub down-second : (letter n : ℕ) → letter ≡ 108 → n ≡ downBy letter n
-down-second letter n e = rw e
-
-pub down-none : (letter n : ℕ) → (letter ≡ 108 → ⊥) → 100000000 ≡ downBy letter n
-down-none letter n e = rw (ne-eqb letter 108 e)
-
-module _ (s : List ℕ) (at i : ℕ) where
-  module _ (letter : ℕ) (q : Two) (g : q ≡ twoAt s i) where
-    pub two-short : q ≡ B.Short → K.Refused 4 at ≡ twoDrawn letter s at i
-    unfolding twoDrawn
-    two-short h = rw (← g, h)
-
-    pub two-read : (a b k m l : ℕ) → q ≡ B.Read a b k m l → (d : ℕ) → d ≡ downBy letter b → (t u : Bool) → t ≡ near a → u ≡ near b
-        → (r x y : Command) → x ≡ withinOr u m (K.Draw letter a d 1 l) → y ≡ withinOr t k x → r ≡ endedAt s at l y → r ≡ twoDrawn letter s at i
-    unfolding twoDrawn
-    two-read a b k m l h d e t u f o r x y n1 n2 n3 = rw (n3, n2, n1, e, f, o, ← g, h)
-
-  module _ (q : Four) (g : q ≡ fourAt s i) where
-    pub arc-short : q ≡ D.Short → K.Refused 4 at ≡ arcDrawn s at i
-    unfolding arcDrawn
-    arc-short h = rw (← g, h)
-
-    pub arc-read : (a b c d k m n o l : ℕ) → q ≡ D.Read a b c d k m n o l → (t u v w : Bool) → t ≡ near a → u ≡ near b → v ≡ near c → w ≡ near d
-        → (r x y z f : Command) → x ≡ withinOr w o (K.Draw 97 (a + c) (b + d) 2 l) → y ≡ withinOr v n x → z ≡ withinOr u m y → f ≡ withinOr t k z → r ≡ endedAt s at l f
-        → r ≡ arcDrawn s at i
-    unfolding arcDrawn
-    arc-read a b c d k m n o l h t u v w e1 e2 e3 e4 r x y z f n1 n2 n3 n4 n5 = rw (n5, n4, n3, n2, n1, e1, e2, e3, e4, ← g, h)
-
-  module _ (letter a k : ℕ) (q : Perhaps) (g : q ≡ perhapsAt s i) where
-    pub dummy-short : q ≡ P.Short → K.Refused 4 at ≡ dummyDrawn letter a k s at i
-    unfolding dummyDrawn
-    dummy-short h = rw (← g, h)
-
-    pub dummy-absent : (l : ℕ) → q ≡ P.Absent l → (t : Bool) → t ≡ near a → (r x y : Command) → x ≡ movedAcross letter a l → y ≡ withinOr t k x → r ≡ endedAt s at l y
-        → r ≡ dummyDrawn letter a k s at i
-    unfolding dummyDrawn
-    dummy-absent l h t e r x y n1 n2 n3 = rw (n3, n2, n1, e, ← g, h)
-
-    pub dummy-read : (d m l : ℕ) → q ≡ P.Read d m l → (t u : Bool) → t ≡ near a → u ≡ near d
-        → (r x y z : Command) → x ≡ movedAcross letter a l → y ≡ withinOr u m x → z ≡ withinOr t k y → r ≡ endedAt s at l z → r ≡ dummyDrawn letter a k s at i
-    unfolding dummyDrawn
-    dummy-read d m l h t u e f r x y z n1 n2 n3 n4 = rw (n4, n3, n2, n1, e, f, ← g, h)
-
-  module _ (q : One) (g : q ≡ oneAt s i) where
-    pub round-short : (letter : ℕ) → q ≡ A.Short → K.Refused 4 at ≡ roundDrawn letter s at i
-    unfolding roundDrawn
-    round-short letter h = rw (← g, h)
-
-    pub round-read : (letter a k l : ℕ) → q ≡ A.Read a k l → (r : Command) → r ≡ dummyDrawn letter a k s at l → r ≡ roundDrawn letter s at i
-    unfolding roundDrawn
-    round-read letter a k l h r f = rw (f, ← g, h)
-
-    pub thickness-short : q ≡ A.Short → K.Refused 4 at ≡ thicknessSet s at i
-    unfolding thicknessSet
-    thickness-short h = rw (← g, h)
-
-    pub thickness-read : (a k l : ℕ) → q ≡ A.Read a k l → (t : Bool) → t ≡ near a → (r x : Command) → x ≡ withinOr t k (K.Draw 116 0 0 0 l) → r ≡ endedAt s at l x
-        → r ≡ thicknessSet s at i
-    unfolding thicknessSet
-    thickness-read a k l h t e r x n1 n2 = rw (n2, n1, e, ← g, h)
-
-    pub gray-short : q ≡ A.Short → K.Refused 4 at ≡ graySet s at i
-    unfolding graySet
-    gray-short h = rw (← g, h)
-
-    pub gray-read : (a k l : ℕ) → q ≡ A.Read a k l → (t : Bool) → t ≡ isGray a → (r x : Command) → x ≡ withinOr t k (K.Gray a l) → r ≡ endedAt s at l x → r ≡ graySet s at i
-    unfolding graySet
-    gray-read a k l h t e r x n1 n2 = rw (n2, n1, e, ← g, h)
-
-  module _ (letter : ℕ) (q : Polygon) (g : q ≡ polygonAt s i) where
-    pub pairs-short : q ≡ G.Short → K.Refused 4 at ≡ polygonDrawn letter s at i
-    unfolding polygonDrawn
-    pairs-short h = rw (← g, h)
-
-    pub pairs-over : (k l : ℕ) → q ≡ G.Over k l → (r : Command) → r ≡ endedAt s at l (K.Refused 6 k) → r ≡ polygonDrawn letter s at i
-    unfolding polygonDrawn
-    pairs-over k l h r f = rw (f, ← g, h)
-
-    pub pairs-read : (x y z l : ℕ) → q ≡ G.Read x y z l → (r : Command) → r ≡ endedAt s at l (K.Draw letter x y z l) → r ≡ polygonDrawn letter s at i
-    unfolding polygonDrawn
-    pairs-read x y z l h r f = rw (f, ← g, h)
-
-  module _ (q : Components) (g : q ≡ componentsAt s i) where
-    pub fill-fault : (n : ℕ) → q ≡ Fault n → K.Refused n at ≡ fillSet s at i
-    unfolding fillSet
-    fill-fault n h = rw (← g, h)
-
-    pub fill-over : (k l : ℕ) → q ≡ Over k l → (r : Command) → r ≡ endedAt s at l (K.Refused 6 k) → r ≡ fillSet s at i
-    unfolding fillSet
-    fill-over k l h r f = rw (f, ← g, h)
-
-    pub fill-read : (scheme x y z w l : ℕ) → q ≡ Read scheme x y z w l → (r : Command) → r ≡ endedAt s at l (K.Fill scheme x y z w l) → r ≡ fillSet s at i
-    unfolding fillSet
-    fill-read scheme x y z w l h r f = rw (f, ← g, h)
-
-pub ruleset drawings = (letter-none, by-letter, fill-letter, no-letter, down-second, down-none, two-short, two-read, arc-short, arc-read, dummy-short, dummy-absent, dummy-read, round-short, round-read, thickness-short, thickness-read, gray-short, gray-read, pairs-short, pairs-over, pairs-read, fill-fault, fill-over, fill-read, needs)
+pub ruleset drawings = (letter-none, by-letter, fill-letter, no-letter, needs)

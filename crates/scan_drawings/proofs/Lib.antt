@@ -1,4 +1,2 @@
 pub mod Placed
-pub mod Limits
-pub mod Colours
 pub mod Drawings

@@ -1,29 +1,11 @@
--- The runs of bytes and numbers of document 01 ("Bytes, spaces, numbers") at a place of a list, as the scanners answer them: places
--- are those of the list, and a number that is moved up is cut at 200,000,000, which is beyond every limit.
-use Prim.Native.Nat.{ℕ, _+_, min}
-use mathlib.Core.Bool.{Bool, true, false}
-use mathlib.Core.List.{List, [], _∷_, map}
-use mathlib.Core.Option.{Option, none, some}
-use lib.ListN.{length, drop, getD}
-use Rattle.rules.specs.Bytes.{if_then_else_, is, isWhite, span, spacer, string, oneLine, Num, Int, noInt, int, integer, moved, Nums, short, nums, integers, manyIntegers, perhapsInteger}
-use Rattle.rules.specs.Drawing.{lineEnds, pairwise, inPairs}
-use Rattle.rules.specs.Scan.{upTo, outside}
-use Rattle.scan_lex.specs.declared.Number.{Number}
-use Rattle.scan_lex.specs.declared.Number.the-variants as N
-use Rattle.scan_lex.specs.declared.One.{One}
-use Rattle.scan_lex.specs.declared.One.the-variants as A
-use Rattle.scan_lex.specs.declared.Two.{Two}
-use Rattle.scan_lex.specs.declared.Two.the-variants as B
-use Rattle.scan_lex.specs.declared.Three.{Three}
-use Rattle.scan_lex.specs.declared.Three.the-variants as C
-use Rattle.scan_lex.specs.declared.Four.{Four}
-use Rattle.scan_lex.specs.declared.Four.the-variants as D
-use Rattle.scan_lex.specs.declared.Perhaps.{Perhaps}
-use Rattle.scan_lex.specs.declared.Perhaps.the-variants as P
-use Rattle.scan_lex.specs.declared.Polygon.{Polygon}
-use Rattle.scan_lex.specs.declared.Polygon.the-variants as G
-
--- ---- runs
+-- The runs of bytes of document 01 ("Bytes, spaces, numbers") at a place of a list, as the scanners answer them: places are those of
+-- the list.
+use Prim.Native.Nat.{ℕ, _+_}
+use mathlib.Core.Bool.{Bool}
+use mathlib.Core.List.{List}
+use lib.ListN.{drop, getD}
+use Rattle.rules.specs.Bytes.{if_then_else_, is, isWhite, span, oneLine}
+use Rattle.rules.specs.Drawing.{lineEnds}
 
 unfoldable pub runEnd : (ℕ → Bool) → List ℕ → ℕ → ℕ
 runEnd p s at = at + span p (drop at s)
@@ -39,78 +21,3 @@ blankAt s at =
 -- the line breaks at a place, perhaps behind a spacer and a comment
 unfoldable pub breaksAt : List ℕ → ℕ → Bool
 breaksAt s at = lineEnds (drop at s)
-
--- ---- numbers
-
-abbrev pub cut : ℕ → ℕ
-cut n = min n 200_000_000
-
-abbrev pub numberOf : ℕ → Int → Number
-numberOf at noInt = N.Missing
-numberOf at (int n l) = N.Value (cut (moved n)) (at + l)
-
-unfoldable pub integerAt : List ℕ → ℕ → Number
-integerAt s at = numberOf at (integer (drop at s))
-
--- integers, each perhaps behind a spacer: the numbers, where each begins, and the place behind the last one
-
-abbrev pub oneOf : Nums → One
-oneOf short = A.Short
-oneOf (nums [] ks l t) = A.Short
-oneOf (nums (a ∷ ns) ks l t) = A.Read (cut (moved a)) (getD ks 0 0) l
-
-unfoldable pub oneAt : List ℕ → ℕ → One
-oneAt s at = oneOf (integers 1 at (drop at s))
-
-abbrev pub twoOf : Nums → Two
-twoOf short = B.Short
-twoOf (nums [] ks l t) = B.Short
-twoOf (nums (a ∷ []) ks l t) = B.Short
-twoOf (nums (a ∷ b ∷ ns) ks l t) = B.Read (cut (moved a)) (cut (moved b)) (getD ks 0 0) (getD ks 1 0) l
-
-unfoldable pub twoAt : List ℕ → ℕ → Two
-twoAt s at = twoOf (integers 2 at (drop at s))
-
-abbrev pub threeOf : Nums → Three
-threeOf short = C.Short
-threeOf (nums [] ks l t) = C.Short
-threeOf (nums (a ∷ []) ks l t) = C.Short
-threeOf (nums (a ∷ b ∷ []) ks l t) = C.Short
-threeOf (nums (a ∷ b ∷ c ∷ ns) ks l t) = C.Read (cut (moved a)) (cut (moved b)) (cut (moved c)) (getD ks 0 0) (getD ks 1 0) (getD ks 2 0) l
-
-unfoldable pub threeAt : List ℕ → ℕ → Three
-threeAt s at = threeOf (integers 3 at (drop at s))
-
-abbrev pub fourOf : Nums → Four
-fourOf short = D.Short
-fourOf (nums [] ks l t) = D.Short
-fourOf (nums (a ∷ []) ks l t) = D.Short
-fourOf (nums (a ∷ b ∷ []) ks l t) = D.Short
-fourOf (nums (a ∷ b ∷ c ∷ []) ks l t) = D.Short
-fourOf (nums (a ∷ b ∷ c ∷ d ∷ ns) ks l t) =
-    D.Read (cut (moved a)) (cut (moved b)) (cut (moved c)) (cut (moved d)) (getD ks 0 0) (getD ks 1 0) (getD ks 2 0) (getD ks 3 0) l
-
-unfoldable pub fourAt : List ℕ → ℕ → Four
-fourAt s at = fourOf (integers 4 at (drop at s))
-
--- a dummy, where an integer is present
-abbrev pub perhapsOf : Nums → Perhaps
-perhapsOf short = P.Short
-perhapsOf (nums [] ks l t) = P.Absent l
-perhapsOf (nums (a ∷ ns) ks l t) = P.Read (cut (moved a)) (getD ks 0 0) l
-
-unfoldable pub perhapsAt : List ℕ → ℕ → Perhaps
-perhapsAt s at = perhapsOf (perhapsInteger at (drop at s))
-
--- as many integers as there are, an even number: all within their limits, with their sums and how many pairs there are; or where
--- the first one outside begins
-abbrev pub polygonWith : List ℕ → ℕ → Option ℕ → Polygon
-polygonWith ns l none = G.Read (pairwise ns .dh) (pairwise ns .dv) (pairwise ns .terms) l
-polygonWith ns l (some k) = G.Over k l
-
-abbrev pub polygonOf : Nums → Polygon
-polygonOf short = G.Short
-polygonOf (nums ns ks l t) = polygonWith (map moved ns) l (outside (upTo 64 (map moved ns)) ks)
-
-unfoldable pub polygonAt : List ℕ → ℕ → Polygon
-polygonAt s at = polygonOf (inPairs (manyIntegers (length (drop at s)) at (drop at s)))

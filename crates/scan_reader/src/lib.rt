@@ -1,5 +1,5 @@
-// A reader struct over a stream (document 01, "What each place should look like"): thin functions take it apart, and call a covered
-// scanner on the slice and the number.
+// A reader struct over a stream (document 01, "What each place should look like"): thin functions take it apart, and call a scanner on
+// the slice and the number.
 use scan_command::Command;
 ghost use mathlib.Core.Path.{_≡_};
 ghost use Prim.Native.Nat.{_<_};

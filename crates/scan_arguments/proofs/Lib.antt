@@ -1,0 +1,4 @@
+pub mod Chains
+pub mod Bounds
+pub mod Pairs
+pub mod Nums

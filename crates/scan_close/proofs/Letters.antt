@@ -1,0 +1,16 @@
+-- A letter decides: the tests of a definition one behind the other, and the arms of a `match`.
+use Prim.Native.Nat.{ℕ}
+use mathlib.Core.Bool.{Bool, true, false}
+use mathlib.Core.List.{List, [], _∷_}
+use mathlib.Core.Path.{_≡_}
+use Rattle.rules.specs.Bytes.{if_then_else_}
+
+-- what the default of a `match` knows of a number: it is none of the arms' keys, which stand from the last arm to the first
+abbrev pub Unlike : ℕ → List ℕ → Type 0
+Unlike b [] = Unit {0}
+Unlike b (k ∷ ks) = Unlike b ks × (b ≡ k → ⊥)
+
+-- a test that decides on two sides
+pub if-alike : {A : Type 0} {R : Type 0} (f : A → R) (t : Bool) (x y : R) (u v : A) → x ≡ f u → y ≡ f v → (if t then x else y) ≡ f (if t then u else v)
+if-alike f true x y u v p q = p
+if-alike f false x y u v p q = q

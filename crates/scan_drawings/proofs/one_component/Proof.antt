@@ -1,9 +1,0 @@
-use Rattle.scan_drawings.proofs.Colours.{colours}
-use Rattle.scan_drawings.proofs.one_component.Statement.{statement}
-use Rattle.scan_drawings.proofs.one_component.Tie as tie
-
-pub one-component-spec : {M : Type 1} → statement M
-one-component-spec =
-    tie.close
-    (tie.spec
-    (λ c κs. search colours) (λ c. search colours) (λ c. search colours) (λ c κs. search colours) (λ c κs. search colours) (λ c. search colours) (λ c. search colours))

@@ -1,5 +1,0 @@
-pub mod Places
-pub mod Numbers
-pub mod Strings
-pub mod Words
-pub mod Steps

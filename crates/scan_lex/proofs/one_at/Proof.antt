@@ -1,8 +1,0 @@
-use Rattle.scan_lex.proofs.Chains.{chains}
-use Rattle.scan_lex.proofs.one_at.Statement.{statement}
-use Rattle.scan_lex.proofs.one_at.Tie as tie
-
-pub one-at-spec : {M : Type 1} → statement M
-one-at-spec =
-    tie.close
-    (tie.spec (λ c κs. search chains) (λ c κs. search chains) (λ c. search chains) (λ c. search chains) (λ c. search chains) (λ c. search chains))
