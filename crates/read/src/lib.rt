@@ -6,19 +6,12 @@ use rules::Record;
 ghost use mathlib.Core.Path.{_≡_};
 ghost use lib.ListN.{length};
 ghost use Rattle.rules.specs.Answers.{readInto, readingOf, recordsOver, entriesOver};
-ghost use Rattle.read_turn.specs.Ready.{Scratch};
-
-pub fn room() -> [u32; 8768]
-    ensures { λ r. ⌜ Scratch r ⌝ }
-{
-    [0u32; 8768]
-}
 
 // The numbers of records, entries and pages, the end position and both colours; or a refusal, which leaves both rows as they were.
 pub fn read(s: &[u8], list: &[u8], records: &mut [Record], entries: &mut [Entry]) -> Reading
     ensures { λ r. ⌜ (r ≡ readingOf (readInto (length (now (records .entry))) (length (now (entries .entry))) (now (s .entry)) (now (list .entry)))) × (now (records .exit) ≡ recordsOver (now (records .entry)) (readInto (length (now (records .entry))) (length (now (entries .entry))) (now (s .entry)) (now (list .entry)))) × (now (entries .exit) ≡ entriesOver (now (entries .entry)) (readInto (length (now (records .entry))) (length (now (entries .entry))) (now (s .entry)) (now (list .entry)))) ⌝ }
 {
-    let mut ws = room();
+    let mut ws = read_scratch::room();
     let a = read_setup::start(&mut ws, s, list);
     let b = read_pass::pass(records, entries, &mut ws, s, list, a);
     let c = read_setup::again(&mut ws, b, s.len(), records.len(), entries.len(), 1);

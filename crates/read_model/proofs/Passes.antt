@@ -18,6 +18,7 @@ use Rattle.rules.specs.Scan.{Scan, got, bad, command, Cmds, done, wrong, next}
 use Rattle.rules.specs.Widths.{Widths}
 use Rattle.rules.specs.State.{Env, Glyph, Item, Step, refused, went, acts, perform, stopped}
 use Rattle.rules.specs.Record.{GlyphRow, ItemRow, Answer, refuse, answer, glyphRows, itemRows, afterRows, goOn, follow, recordOf, entryOf}
+use Rattle.scan_command.specs.declared.Command.{Command}
 use Rattle.scan_command.specs.View.{cmdOf, commandAt}
 use Rattle.laws.proofs.Cases.{on, if-both}
 use Rattle.laws.proofs.Good.{GoodCmd}
@@ -125,19 +126,19 @@ ended-after rs xs (answer rs′ xs′ d) p p′ q t h = record {
 
 -- ---- room
 
-room-now : (n : ℕ) (rs : List GlyphRow) (xs : List ItemRow) (r : Answer) (st : State) → st .at + length rs ≤ n → st .at + length xs ≤ n → Room n (afterRows rs xs r) st
-    → (st .records + length rs ≤ st .rmax) × (st .entries + length xs ≤ st .emax)
-room-now n rs xs r st a b (inl h) = (omega (arith, h .0, h .2), omega (arith, h .1, h .3))
-room-now n rs xs (refuse k o) st a b (inr h) = absurd h
-room-now n rs xs (answer rs′ xs′ d) st a b (inr h) = (omega (arith, h .0, length-append rs rs′), omega (arith, h .1, length-append xs xs′))
+module _ (n : ℕ) (rs : List GlyphRow) (xs : List ItemRow) where
+  pub room-now : (r : Answer) (st : State) → st .at + length rs ≤ n → st .at + length xs ≤ n → Room n (afterRows rs xs r) st
+      → (st .records + length rs ≤ st .rmax) × (st .entries + length xs ≤ st .emax)
+  room-now r st a b (inl h) = (omega (arith, h .0, h .2), omega (arith, h .1, h .3))
+  room-now (refuse k o) st a b (inr h) = absurd h
+  room-now (answer rs′ xs′ d) st a b (inr h) = (omega (arith, h .0, length-append rs rs′), omega (arith, h .1, length-append xs xs′))
 
-room-next : (n : ℕ) (rs : List GlyphRow) (xs : List ItemRow) (r : Answer) (p p′ : ReadPass) → Stepped rs xs p p′ → p .state .at + length rs ≤ p′ .state .at → p .state .at + length xs ≤ p′ .state .at
-    → Room n (afterRows rs xs r) (p .state) → Room n r (p′ .state)
-room-next n rs xs r p p′ t a b (inl h) =
-    inl (omega (arith, t .rmax, h .0), omega (arith, t .emax, h .1), omega (arith, t .count, h .2), omega (arith, t .number, h .3))
-room-next n rs xs (refuse k o) p p′ t a b (inr h) = absurd h
-room-next n rs xs (answer rs′ xs′ d) p p′ t a b (inr h) =
-    inr (omega (arith, t .rmax, t .count, h .0, length-append rs rs′), omega (arith, t .emax, t .number, h .1, length-append xs xs′))
+  -- behind them, at the state st′
+  pub room-next : (r : Answer) (st st′ : State) → st′ .records ≡ st .records + length rs → st′ .entries ≡ st .entries + length xs → st′ .rmax ≡ st .rmax → st′ .emax ≡ st .emax
+      → st .at + length rs ≤ st′ .at → st .at + length xs ≤ st′ .at → Room n (afterRows rs xs r) st → Room n r st′
+  room-next r st st′ t u v w a b (inl h) = inl (omega (arith, v, h .0), omega (arith, w, h .1), omega (arith, t, h .2), omega (arith, u, h .3))
+  room-next (refuse k o) st st′ t u v w a b (inr h) = absurd h
+  room-next (answer rs′ xs′ d) st st′ t u v w a b (inr h) = inr (omega (arith, v, t, h .0, length-append rs rs′), omega (arith, w, u, h .1, length-append xs xs′))
 
 pub after-none : (r : Answer) → afterRows [] [] r ≡ r
 after-none (refuse k o) = refl
@@ -175,11 +176,120 @@ module _ (find : List ℕ → ℕ) (s : List ℕ) (p : ReadPass) where
         entries = rw (t, x) (u .entries (p .entries));
       }
 
+-- ---- the command where a pass stands, of the reader and of the rewriter
+
+-- what the rules say from there on
+abbrev pub readsAt : Widths → List ℕ → List (List ℕ) → State → Answer
+readsAt w s ms st = follow w (envOf (st .env) ms) (from s (st .at))
+
+-- the command c, whose name stands a bytes on and which is l bytes long
+abbrev pub commandHere : State → Cmd → ℕ → ℕ → Command
+commandHere st c a l = cmdOf (st .at + a) (st .at + l) c
+
+unfoldable pub didHere : List ℕ → List ℕ → State → Cmd → ℕ → ℕ → Did
+didHere s ws st c a l = didAt s ws (st .unitwidth) (st .env) (st .at) (commandHere st c a l)
+
+pub record Here (w : Widths) (find : List ℕ → ℕ) (s : List ℕ) (ms : List (List ℕ)) (ws : List ℕ) (st : State) (c : Cmd) (a l : ℕ) : Type 0 where
+  pub good : GoodCmd c
+  pub stands : take (length (textOf c)) (drop (st .at + a) s) ≡ textOf c
+  pub some : 1 ≤ l
+  pub within : st .at + l ≤ length s
+  pub found : commandAt s (st .at) ≡ commandHere st c a l
+  pub turned : turnOn s ws st (commandHere st c a l) ≡ doneOf (length s) st (st .at + l) (didHere s ws st c a l)
+  pub turn : turnOf s ws st ≡ doneOf (length s) st (st .at + l) (didHere s ws st c a l)
+  pub scratch : scratchOf find s ws st ≡ scratchAfter find s ws (st .env) (commandHere st c a l)
+  pub follows : readsAt w s ms st ≡ goOn (st .at) (st .at + a) l (λ d. follow w d (from s (st .at + l))) (perform (envOf (st .env) ms) (acts w (envOf (st .env) ms) c))
+  pub fewer : Few s ws l some (didHere s ws st c a l)
+
+module _ (w : Widths) (find : List ℕ → ℕ) (s : List ℕ) (ms : List (List ℕ)) (ws : List ℕ) (st : State) (c : Cmd) (a l : ℕ) where
+  module _ (h : st .at < length s) (e : isWhite (getD s (st .at) 0) ≡ false) (k : is "#" (getD s (st .at) 0) ≡ false) (q : command (getD s (st .at) 0) (drop (st .at + 1) s) ≡ got c a l) where
+    inside : GotIn (getD s (st .at) 0 ∷ drop (st .at + 1) s) c a l
+    inside = rw q at (command-in (getD s (st .at) 0) (drop (st .at + 1) s))
+
+    found-is : commandAt s (st .at) ≡ commandHere st c a l
+    unfolding commandAt
+    found-is = rw q
+
+    turned-is : turnOn s ws st (commandHere st c a l) ≡ doneOf (length s) st (st .at + l) (didHere s ws st c a l)
+    unfolding didHere
+    turned-is = ap (λ (i : ℕ). doneOf (length s) st i (didHere s ws st c a l)) (next-is (st .at + a) (st .at + l) c)
+
+    turn-is : turnOf s ws st ≡ doneOf (length s) st (st .at + l) (didHere s ws st c a l)
+    unfolding turnOf
+    turn-is = rw (e, k, found-is) turned-is
+
+    scratch-is : scratchOf find s ws st ≡ scratchAfter find s ws (st .env) (commandHere st c a l)
+    unfolding scratchOf
+    scratch-is = rw (e, k, found-is)
+
+    follow-is : readsAt w s ms st ≡ goOn (st .at) (st .at + a) l (λ d. follow w d (from s (st .at + l))) (perform (envOf (st .env) ms) (acts w (envOf (st .env) ms) c))
+    unfolding follow
+    follow-is = rw (from-got s (st .at) h e k c a l q)
+
+    reaches : (1 ≤ l) × (st .at + l ≤ length s) × (a ≤ l)
+    reaches = got-in s (st .at) h c a l q
+
+    fewer-is : Few s ws l (reaches .0) (didHere s ws st c a l)
+    unfolding didHere
+    fewer-is = few s ws l (reaches .0) (st .unitwidth) (st .env) (st .at) (st .at + a) (st .at + l) c (omega (arith, inside .name))
+
+    pub here-is : Here w find s ms ws st c a l
+    here-is = record {
+      good = rw q at (command-good (getD s (st .at) 0) (drop (st .at + 1) s));
+      stands = rw (← drop-drop a (st .at) s, cons-at s (st .at) h) (inside .stands);
+      some = reaches .0;
+      within = reaches .1;
+      found = found-is;
+      turned = turned-is;
+      turn = turn-is;
+      scratch = scratch-is;
+      follows = follow-is;
+      fewer = fewer-is;
+    }
+
+  -- where nothing is refused, with its records rs and its entries xs
+  pub record Went (rs : List GlyphRow) (xs : List ItemRow) : Type 0 where
+    pub reads : readsAt w s ms st ≡ afterRows rs xs (follow w (envOf (didHere s ws st c a l .env) (mountsAfterCmd c ms)) (from s (st .at + l)))
+    pub few-records : length rs ≤ l
+    pub few-entries : length xs ≤ l
+    pub turn : turnOf s ws st ≡ emitted (length s) st (st .at + l) (didHere s ws st c a l .env) (didHere s ws st c a l .emitted)
+    pub turns : Turns s ws (length s) st (st .at + l) (didHere s ws st c a l .env) (didHere s ws st c a l .emitted) (emitted (length s) st (st .at + l) (didHere s ws st c a l .env) (didHere s ws st c a l .emitted))
+    pub state : turnOf s ws st .state ≡ goneTo (length s) st (st .at + l) (st .records + length rs) (st .entries + length xs) (didHere s ws st c a l .env)
+    pub live : Live w find (mountsAfterCmd c ms) (scratchOf find s ws st) (st .unitwidth) (didHere s ws st c a l .env)
+
+  pub went-here : Here w find s ms ws st c a l → Live w find ms ws (st .unitwidth) (st .env) → Room (length s) (readsAt w s ms st) st
+      → (d : Env) (gs : List Glyph) (ys : List Item) → perform (envOf (st .env) ms) (acts w (envOf (st .env) ms) c) ≡ went d gs ys → Agrees s ws (mountsAfterCmd c ms) (st .at) (st .at + a) l (went d gs ys) (didHere s ws st c a l)
+      → Went (glyphRows (st .at + a) gs) (itemRows (st .at) l ys)
+  went-here o v r d gs ys z t =
+      let did : Did = didHere s ws st c a l in
+      let rs : List GlyphRow = glyphRows (st .at + a) gs in
+      let xs : List ItemRow = itemRows (st .at) l ys in
+      let rest : Answer = follow w (envOf (did .env) (mountsAfterCmd c ms)) (from s (st .at + l)) in
+      let n₁ : length (recordsIn s ws (did .emitted)) ≡ length rs = sym (ap length (t .2)) ∙ length-map recordOf rs in
+      let n₂ : length (entriesIn (did .emitted)) ≡ length xs = sym (ap length (t .3)) ∙ length-map entryOf xs in
+      let f₁ : length rs ≤ l = omega (arith, n₁, o .fewer .0) in
+      let f₂ : length xs ≤ l = omega (arith, n₂, o .fewer .1) in
+      let reads : readsAt w s ms st ≡ afterRows rs xs rest = o .follows ∙ rw z (ap (λ (i : Env). afterRows rs xs (follow w i (from s (st .at + l)))) (sym (t .1))) in
+      let room : (st .records + length rs ≤ st .rmax) × (st .entries + length xs ≤ st .emax) =
+      room-now (length s) rs xs rest st (omega (arith, o .within)) (omega (arith, o .within)) (rw reads at r) in
+      let turn : turnOf s ws st ≡ emitted (length s) st (st .at + l) (did .env) (did .emitted) = o .turn ∙ rw (t .0) in
+      let turns : Turns s ws (length s) st (st .at + l) (did .env) (did .emitted) (emitted (length s) st (st .at + l) (did .env) (did .emitted)) =
+      emitted-turns s ws (length s) st (st .at + l) (did .env) (did .emitted) (rw n₁ (room .0)) (rw n₂ (room .1)) in
+      record {
+        reads = reads;
+        few-records = f₁;
+        few-entries = f₂;
+        turn = turn;
+        turns = turns;
+        state = rw (turn, turns .state, n₁, n₂);
+        live = rw (o .scratch) (live-next w find s ms ws (st .unitwidth) (st .env) v (st .at) l a c (o .good) (o .stands) d gs ys did z (t .1));
+      }
+
 -- ---- a whole pass
 
 module _ (w : Widths) (find : List ℕ → ℕ) (s : List ℕ) (y : (i : ℕ) → getD s i 0 < 256) where
   abbrev readsFrom : List (List ℕ) → State → Answer
-  readsFrom ms st = follow w (envOf (st .env) ms) (from s (st .at))
+  readsFrom ms st = readsAt w s ms st
 
   -- what is claimed of f turns
   abbrev Passes : ℕ → Type 0
@@ -212,7 +322,7 @@ module _ (w : Widths) (find : List ℕ → ℕ) (s : List ℕ) (y : (i : ℕ) �
   onward f more ms ms′ p p′ rs xs t g v a b l e r q z =
       rw (e, z)
       (ended-after rs xs (readsFrom ms′ (p′ .state)) p p′ (readPassFor f find s p′) t
-      (more ms′ p′ g v l (room-next (length s) rs xs (readsFrom ms′ (p′ .state)) p p′ t a b (rw e at r))))
+      (more ms′ p′ g v l (room-next (length s) rs xs (readsFrom ms′ (p′ .state)) (p .state) (p′ .state) (t .count) (t .number) (t .rmax) (t .emax) a b (rw e at r))))
 
   module _ (f : ℕ) (more : Passes f) (ms : List (List ℕ)) (p : ReadPass) (g : Going (length s) (p .state)) (v : Live w find ms (p .scratch) (p .state .unitwidth) (p .state .env)) (l : p .state .left ≤ suc f) (h : p .state .at < length s) (r : Room (length s) (readsFrom ms (p .state)) (p .state)) where
     one-turn : readPassFor (suc f) find s p ≡ readPassFor f find s (readStepOf find s p)
@@ -257,71 +367,32 @@ module _ (w : Widths) (find : List ℕ → ℕ) (s : List ℕ) (y : (i : ℕ) �
           stops x z (rw (e, k, q, ne-eqb x 0 (λ i. omega arith))) (rw (from-bad s (p .state .at) h e k n j q))
 
       module _ (c : Cmd) (a l′ : ℕ) (q : command (getD s (p .state .at) 0) (drop (p .state .at + 1) s) ≡ got c a l′) where
-        good : GoodCmd c
-        good = rw q at (command-good (getD s (p .state .at) 0) (drop (p .state .at + 1) s))
+        here : Here w find s ms (p .scratch) (p .state) c a l′
+        here = here-is w find s ms (p .scratch) (p .state) c a l′ h e k q
 
-        inside : GotIn (getD s (p .state .at) 0 ∷ drop (p .state .at + 1) s) c a l′
-        inside = rw q at (command-in (getD s (p .state .at) 0) (drop (p .state .at + 1) s))
-
-        stands : take (length (textOf c)) (drop (p .state .at + a) s) ≡ textOf c
-        stands = rw (← drop-drop a (p .state .at) s, cons-at s (p .state .at) h) (inside .stands)
-
-        -- what was done
-        did : Did
-        did = didAt s (p .scratch) (p .state .unitwidth) (p .state .env) (p .state .at) (cmdOf (p .state .at + a) (p .state .at + l′) c)
-
-        turn-is : turnOf s (p .scratch) (p .state) ≡ doneOf (length s) (p .state) (p .state .at + l′) did
-        unfolding turnOf commandAt did
-        turn-is = rw (e, k, q) (ap (λ (i : ℕ). doneOf (length s) (p .state) i did) (next-is (p .state .at + a) (p .state .at + l′) c))
-
-        scratch-is : scratchOf find s (p .scratch) (p .state) ≡ scratchAfter find s (p .scratch) (p .state .env) (cmdOf (p .state .at + a) (p .state .at + l′) c)
-        unfolding scratchOf commandAt
-        scratch-is = rw (e, k, q)
-
-        follow-is : readsFrom ms (p .state) ≡ goOn (p .state .at) (p .state .at + a) l′ (λ d. follow w d (from s (p .state .at + l′))) (perform (envOf (p .state .env) ms) (acts w (envOf (p .state .env) ms) c))
-        unfolding follow
-        follow-is = rw (from-got s (p .state .at) h e k c a l′ q)
-
-        reaches : (1 ≤ l′) × (p .state .at + l′ ≤ length s) × (a ≤ l′)
-        reaches = got-in s (p .state .at) h c a l′ q
-
-        fewer : Few s (p .scratch) l′ (reaches .0) did
-        unfolding did
-        fewer = few s (p .scratch) l′ (reaches .0) (p .state .unitwidth) (p .state .env) (p .state .at) (p .state .at + a) (p .state .at + l′) c (omega (arith, inside .name))
+        abbrev did : Did
+        did = didHere s (p .scratch) (p .state) c a l′
 
         goes-on : (x : Step) → perform (envOf (p .state .env) ms) (acts w (envOf (p .state .env) ms) c) ≡ x → Agrees s (p .scratch) (mountsAfterCmd c ms) (p .state .at) (p .state .at + a) l′ x did
             → Ended (readsFrom ms (p .state)) p (readPassFor (suc f) find s p)
         goes-on (refused n) z t =
-            stops n (t .1) (turn-is ∙ rw (t .0, ne-eqb n 0 (λ i. let o : 0 < n = t .1 in omega arith))) (follow-is ∙ rw z)
+            stops n (t .1) (here .turn ∙ rw (t .0, ne-eqb n 0 (λ i. let o : 0 < n = t .1 in omega arith))) (here .follows ∙ rw z)
         goes-on (went d gs ys) z t =
             let rs : List GlyphRow = glyphRows (p .state .at + a) gs in
             let xs : List ItemRow = itemRows (p .state .at) l′ ys in
-            let m : List (List ℕ) = mountsAfterCmd c ms in
-            let rest : Answer = follow w d (from s (p .state .at + l′)) in
-            let i : length rs ≤ l′ = omega (arith, sym (length-map recordOf rs) ∙ ap length (t .2), fewer .0) in
-            let j : length xs ≤ l′ = omega (arith, sym (length-map entryOf xs) ∙ ap length (t .3), fewer .1) in
-            let eq : readsFrom ms (p .state) ≡ afterRows rs xs rest = follow-is ∙ rw z in
-            let room : (p .state .records + length rs ≤ p .state .rmax) × (p .state .entries + length xs ≤ p .state .emax) =
-            room-now (length s) rs xs rest (p .state) (omega (arith, reaches)) (omega (arith, reaches)) (rw eq at r) in
-            let turn : turnOf s (p .scratch) (p .state) ≡ emitted (length s) (p .state) (p .state .at + l′) (did .env) (did .emitted) = turn-is ∙ rw (t .0) in
-            let turned : Turns s (p .scratch) (length s) (p .state) (p .state .at + l′) (did .env) (did .emitted) (emitted (length s) (p .state) (p .state .at + l′) (did .env) (did .emitted)) =
-            emitted-turns s (p .scratch) (length s) (p .state) (p .state .at + l′) (did .env) (did .emitted) (rw (← t .2, length-map recordOf rs) (room .0)) (rw (← t .3, length-map entryOf xs) (room .1)) in
-            let step : Stepped rs xs p (readStepOf find s p) = went-steps find s p (p .state .at + l′) did rs xs turn (t .2) (t .3) turned in
-            let live : Live w find m (scratchOf find s (p .scratch) (p .state)) (p .state .unitwidth) (did .env) =
-            rw scratch-is (live-next w find s ms (p .scratch) (p .state .unitwidth) (p .state .env) v (p .state .at) l′ a c good stands d gs ys did z (t .1)) in
-            let reads : rest ≡ readsFrom m (readStepOf find s p .state) = rw (turn, turned .state) (ap (λ (k : Env). follow w k (from s (p .state .at + l′))) (sym (t .1))) in
-            onward f more ms m p (readStepOf find s p) rs xs step
-            (rw (turn, turned .state) (record { within = reaches .1; left = refl; clear = g .clear }))
-            (rw (turn, turned .state) live)
-            (rw (turn, turned .state) (omega arith))
-            (rw (turn, turned .state) (omega arith))
-            (rw (turn, turned .state) (omega (arith, g .left, reaches)))
-            (eq ∙ ap (afterRows rs xs) reads)
+            let x : Went w find s ms (p .scratch) (p .state) c a l′ rs xs = went-here w find s ms (p .scratch) (p .state) c a l′ here v r d gs ys z t in
+            onward f more ms (mountsAfterCmd c ms) p (readStepOf find s p) rs xs (went-steps find s p (p .state .at + l′) did rs xs (x .turn) (t .2) (t .3) (x .turns))
+            (rw (x .state) (record { within = here .within; left = refl; clear = g .clear }))
+            (rw (x .state) (x .live))
+            (rw (x .state) (omega (arith, x .few-records)))
+            (rw (x .state) (omega (arith, x .few-entries)))
+            (rw (x .state) (omega (arith, g .left, here .some, here .within)))
+            (rw (x .state) (x .reads))
             r (readPassFor (suc f) find s p) one-turn
 
         one-command : Ended (readsFrom ms (p .state)) p (readPassFor (suc f) find s p)
-        unfolding did
-        one-command = goes-on (perform (envOf (p .state .env) ms) (acts w (envOf (p .state .env) ms) c)) refl (did-agrees w find s y ms (p .scratch) (p .state .unitwidth) (p .state .env) v (p .state .at) l′ a c good stands)
+        unfolding didHere
+        one-command = goes-on (perform (envOf (p .state .env) ms) (acts w (envOf (p .state .env) ms) c)) refl (did-agrees w find s y ms (p .scratch) (p .state .unitwidth) (p .state .env) v (p .state .at) l′ a c (here .good) (here .stands))
 
       commands-on : (x : Scan) → command (getD s (p .state .at) 0) (drop (p .state .at + 1) s) ≡ x → Ended (readsFrom ms (p .state)) p (readPassFor (suc f) find s p)
       commands-on (bad n j) q = refuses n j q

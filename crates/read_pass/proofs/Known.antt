@@ -10,7 +10,7 @@ use lib.Seq.{drop-drop}
 use borrow.Author.Tests.{eq-eqb, ne-eqb}
 use Rattle.rules.specs.declared.Record.{Record}
 use Rattle.rules.specs.declared.Entry.{Entry}
-use Rattle.widths.specs.Slots.{slotIn}
+use Rattle.widths_table.specs.Slots.{slotIn}
 use Rattle.read_model.specs.declared.Word.{Word}
 use Rattle.read_model.specs.declared.State.{State}
 use Rattle.read_model.specs.declared.Effect.{Effect}

@@ -8,8 +8,8 @@ use Rattle.rules.specs.declared.Record.{Record}
 use Rattle.read_model.specs.declared.Word.{Word}
 use Rattle.read_model.specs.Words.{wordRecord, wordNext}
 use Rattle.read_model.specs.Passes.{wordFill}
-use Rattle.read_effects.specs.Bounds.{Goes}
-use Rattle.read_effects.proofs.Spelling.{goes-on, goes-fits}
+use Rattle.read_word.specs.Bounds.{Goes}
+use Rattle.read_word.proofs.Spelling.{goes-on, goes-fits}
 use Rattle.read_rows.specs.Words.{WordIn}
 
 pub fill-next : (n : ℕ) (s ws : List ℕ) (i : ℕ) (d : Word) (row : List Record) → wordFill (suc n) s ws i d row ≡ wordFill n s ws (i + 1) (wordNext s ws d) (set row i (wordRecord d))

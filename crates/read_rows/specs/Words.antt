@@ -3,7 +3,7 @@ use Prim.Native.Nat.{ℕ, _+_, _<_, _≤_}
 use mathlib.Core.List.{List}
 use Rattle.read_model.specs.declared.Word.{Word}
 use Rattle.read_model.specs.Words.{wordEnd}
-use Rattle.read_effects.specs.Bounds.{Small, WordFits}
+use Rattle.read_word.specs.Bounds.{Small, WordFits}
 
 -- a word whose records go to a row of n from k on
 pub record WordIn (s ws : List ℕ) (n k : ℕ) (w : Word) : Type 0 where

@@ -30,7 +30,7 @@ pub fn fill_word(row: &mut [Record], s: &[u8], ws: &[u32], k: usize, w: Word)
     let mut d = w;
     let mut i = k;
     while 0 < d.left {
-        let x = read_effects::word_step(s, ws, d);
+        let x = read_word::word_step(s, ws, d);
         put_record(row, i, x.row);
         d = x.next;
         i += 1;

@@ -25,8 +25,8 @@ use Rattle.read_model.specs.declared.State.{State}
 use Rattle.read_model.specs.Environment.{schemeAt, paintOf}
 use Rattle.read_model.specs.Fits.{EnvFits}
 use Rattle.read_turn.specs.Ready.{Scratch}
-use Rattle.read_setup.specs.Setup.{ScratchOf, Holding, Unmounted, noColour, startEnv, beginOf, refusedAt, StartedWith, StartedOr, Started, againOf, readAnswerOf}
-use Rattle.read_setup.proofs.Gathering.{gathered-holds}
+use Rattle.read_scratch.specs.Scratch.{Holding}
+use Rattle.read_setup.specs.Setup.{noColour, startEnv, beginOf, refusedAt, StartedWith, StartedOr, Started, againOf, readAnswerOf}
 
 -- ---- states
 
@@ -142,4 +142,4 @@ module _ (st : State) where
   pub answer-no : (a b : Colour) → (st .refusal ≡ 0 → ⊥) → a ≡ noColour → b ≡ noColour → record { answer = R.Refused (st .refusal) (st .at); glyph = a; fill = b } ≡ readAnswerOf st
   answer-no a b z x y = rw (ne-eqb (st .refusal) 0 z, x, y)
 
-pub ruleset planning = (env-is, begin-is, refused-is, again-refused, again-open, again-full, again-fills, start-long, start-wide, start-unsound, start-sound, gathered-holds, colour-kept, colour-else, h-shown, v-shown, answer-yes, answer-no, needs)
+pub ruleset planning = (env-is, begin-is, refused-is, again-refused, again-open, again-full, again-fills, start-long, start-wide, start-unsound, start-sound, colour-kept, colour-else, h-shown, v-shown, answer-yes, answer-no, needs)

@@ -1,60 +1,23 @@
--- What a reading does around its passes: the scratch row, the state in which a pass begins, the answer. In the code's own steps.
-use Prim.Native.Nat.{ℕ, zero, suc, _+_, _*_, _-_, _<_, _≤_}
+-- What a reading does around its passes: the state in which a pass begins, and the answer. In the code's own steps.
+use Prim.Native.Nat.{ℕ, _<_}
 use mathlib.Core.Bool.{Bool, true, false, _||_}
 use mathlib.Core.List.{List, [], _∷_}
 use mathlib.Core.Path.{_≡_}
 use lib.Dec.{ltb, eqb}
-use lib.ListN.{length, take, drop, getD}
+use lib.ListN.{length, getD}
 use Rattle.rules.specs.declared.Colour.{Colour}
 use Rattle.rules.specs.declared.Reading.{Reading}
 use Rattle.rules.specs.declared.ReadAnswer.the-variants as R
 use Rattle.rules.specs.Bytes.{if_then_else_, origin}
 use Rattle.rules.specs.State.{noPaint}
 use Rattle.rules.specs.Record.{shown, colourOf}
-use Rattle.rules.specs.Widths.{Font, Widths, WidthList, unsound, sound, widthList}
+use Rattle.rules.specs.Widths.{WidthList, unsound, sound, widthList}
 use Rattle.rules.specs.Answers.{streamMost, isOver}
-use Rattle.widths.specs.Table.{TableOf, NamesOf}
 use Rattle.read_model.specs.declared.Environment.{Environment}
 use Rattle.read_model.specs.declared.State.{State}
 use Rattle.read_model.specs.Environment.{paintOf}
 use Rattle.read_turn.specs.Ready.{Scratch}
-
--- ---- the scratch row
-
--- a number that is none of a list's, as 0
-abbrev pub capped : ℕ → ℕ
-capped x = if ltb 100001 x then 0 else x
-
--- what stands at a place: the mounts, the table, an empty block, the names' places, their lengths
-abbrev pub scratchAt : List ℕ → List ℕ → List ℕ → ℕ → ℕ
-scratchAt table places lens i =
-    if ltb i 256 then 0 else
-    if ltb i 8448 then capped (getD table (i - 256) 0) else
-    if ltb i 8704 then 0 else
-    if ltb i 8736 then capped (getD places (i - 8704) 0) else
-    capped (getD lens (i - 8736) 0)
-
-pub record Gathered (table places lens ws : List ℕ) : Type 0 where
-  pub size : length ws ≡ 8768
-  pub each : (i : ℕ) → i < 8768 → getD ws i 0 ≡ scratchAt table places lens i
-
--- the scratch row of a list's fonts, with nothing mounted
-pub record ScratchOf (list : List ℕ) (fs : List Font) (ws : List ℕ) : Type 0 where
-  pub scratch : Scratch ws
-  pub none : (i : ℕ) → i < 256 → getD ws i 0 ≡ 0
-  pub table : TableOf fs (take 8192 (drop 256 ws))
-  pub empty : (b : ℕ) → b < 256 → getD ws (8448 + b) 0 ≡ 0
-  pub names : NamesOf list fs (take 32 (drop 8704 ws)) (take 32 (drop 8736 ws))
-
-abbrev pub Holding : List ℕ → List ℕ → WidthList → Type 0
-Holding list ws (unsound at) = Scratch ws
-Holding list ws (sound w) = ScratchOf list (w .fonts) ws
-
--- nothing is mounted any more; the rest is as it was
-pub record Unmounted (ws ws′ : List ℕ) : Type 0 where
-  pub scratch : Scratch ws′
-  pub none : (i : ℕ) → i < 256 → getD ws′ i 0 ≡ 0
-  pub kept : (i : ℕ) → 256 ≤ i → getD ws′ i 0 ≡ getD ws i 0
+pub use Rattle.read_scratch.specs.Scratch.{ScratchOf, Unmounted}
 
 -- ---- the state in which a pass begins
 

@@ -1,5 +1,4 @@
-// What a reading does around its passes: the scratch row made from the width list, the state in which each pass begins, and the
-// answer at the end.
+// What a reading does around its passes: the state in which each pass begins, and the answer at the end.
 use read_model::Environment;
 use read_model::State;
 use rules::Colour;
@@ -7,106 +6,12 @@ use rules::ReadAnswer;
 use rules::Reading;
 use widths::ListAnswer;
 ghost use mathlib.Core.Path.{_≡_};
-ghost use Prim.Native.Nat.{_≤_, _<_};
-ghost use lib.ListN.{length};
-ghost use Rattle.rules.specs.Widths.{widthList};
 ghost use Rattle.rules.specs.Record.{colourOf};
-ghost use Rattle.widths.specs.Table.{listOf};
 ghost use Rattle.read_model.specs.Environment.{paintOf};
 ghost use Rattle.read_model.specs.Fits.{EnvFits};
 ghost use Rattle.read_turn.specs.Ready.{Scratch};
-ghost use Rattle.read_setup.specs.Setup.{capped, scratchAt, Gathered, Holding, Unmounted, noColour, startEnv, beginOf, refusedAt, Started, againOf, readAnswerOf, AreBytes};
-
-// ---- the scratch row
-
-fn capped(x: u32) -> u32
-    ensures { λ r. ⌜ r ≡ capped x ⌝ }
-{
-    if 100_001 < x { 0 } else { x }
-}
-
-// What stands at a place: the mounts, the table of widths, an empty block, the names' places, their lengths.
-fn scratch_at(table: &[u32], places: &[u32], lens: &[u32], i: usize) -> u32
-    requires { ⌜ (length (now table) ≡ 8192) × (length (now places) ≡ 32) × (length (now lens) ≡ 32) × (i < 8768) ⌝ }
-    ensures { λ r. ⌜ r ≡ scratchAt (now (table .entry)) (now (places .entry)) (now (lens .entry)) i ⌝ }
-{
-    if i < 256 {
-        return 0;
-    }
-    if i < 8448 {
-        let k = i - 256;
-        return capped(table[k]);
-    }
-    if i < 8704 {
-        return 0;
-    }
-    if i < 8736 {
-        let k = i - 8704;
-        return capped(places[k]);
-    }
-    let k = i - 8736;
-    capped(lens[k])
-}
-
-fn gather(ws: &mut [u32], table: &[u32], places: &[u32], lens: &[u32])
-    requires { ⌜ (length (now ws) ≡ 8768) × (length (now table) ≡ 8192) × (length (now places) ≡ 32) × (length (now lens) ≡ 32) ⌝ }
-    ensures { λ _. ⌜ Gathered (now (table .entry)) (now (places .entry)) (now (lens .entry)) (now (ws .exit)) ⌝ }
-{
-    let mut i = 0;
-    while i < 8768 {
-        let x = scratch_at(table, places, lens, i);
-        ws[i] = x;
-        i += 1;
-    }
-}
-
-fn table() -> [u32; 8192] {
-    [0u32; 8192]
-}
-
-// The width list, judged, and in the scratch row.
-fn load(ws: &mut [u32], list: &[u8]) -> ListAnswer
-    requires { ⌜ (length (now list) ≤ 65536) × (length (now ws) ≡ 8768) ⌝ }
-    ensures { λ r. ⌜ (r ≡ listOf (widthList (now (list .entry)))) × Holding (now (list .entry)) (now (ws .exit)) (widthList (now (list .entry))) ⌝ }
-{
-    let mut blocks = table();
-    let mut places = [0u32; 32];
-    let mut lens = [0u32; 32];
-    let r = widths::load(list, &mut blocks, &mut places, &mut lens);
-    gather(ws, &blocks, &places, &lens);
-    r
-}
-
-// Nothing is mounted any more.
-fn clear(ws: &mut [u32])
-    requires { ⌜ Scratch (now ws) ⌝ }
-    ensures { λ _. ⌜ Unmounted (now (ws .entry)) (now (ws .exit)) ⌝ }
-{
-    let mut i = 0;
-    while i < 256 {
-        ws[i] = 0;
-        i += 1;
-    }
-}
-
-// ---- bytes
-
-fn byte_known(b: u8) -> u8
-    ensures { λ r. ⌜ (r ≡ b) × (r < 256) ⌝ }
-{
-    b
-}
-
-// Every byte of the stream is below 256: that is known of each where it is read.
-fn are_bytes(s: &[u8])
-    ensures { λ _. ⌜ AreBytes (now (s .entry)) ⌝ }
-{
-    let mut i = 0;
-    while i < s.len() {
-        let _b = byte_known(s[i]);
-        i += 1;
-    }
-}
+ghost use Rattle.read_scratch.specs.Scratch.{Unmounted};
+ghost use Rattle.read_setup.specs.Setup.{noColour, startEnv, beginOf, refusedAt, Started, againOf, readAnswerOf, AreBytes};
 
 // ---- the state in which a pass begins
 
@@ -178,7 +83,6 @@ pub fn start(ws: &mut [u32], s: &[u8], list: &[u8]) -> State
     requires { ⌜ Scratch (now ws) ⌝ }
     ensures { λ r. ⌜ Started (now (s .entry)) (now (list .entry)) r (now (ws .exit)) × AreBytes (now (s .entry)) ⌝ }
 {
-    are_bytes(s);
     let n = s.len();
     if 16_777_216 < n {
         return refused(1, 0);
@@ -186,7 +90,7 @@ pub fn start(ws: &mut [u32], s: &[u8], list: &[u8]) -> State
     if 65_536 < list.len() {
         return refused(1, 0);
     }
-    match load(ws, list) {
+    match read_scratch::load(ws, list) {
         ListAnswer::Unsound { offset } => refused(2, offset),
         ListAnswer::Sound { unitwidth, fonts } => begin(n, n, n, fonts, unitwidth, 0),
     }
@@ -217,13 +121,14 @@ pub fn again(ws: &mut [u32], a: State, n: usize, rmax: usize, emax: usize, fill:
     requires { ⌜ Scratch (now ws) ⌝ }
     ensures { λ r. ⌜ (r ≡ againOf a n rmax emax fill) × Unmounted (now (ws .entry)) (now (ws .exit)) ⌝ }
 {
-    clear(ws);
+    read_scratch::clear(ws);
     next_state(a, n, rmax, emax, fill)
 }
 
 // ---- the answer
 
-// A colour with one of the five schemes' letters.
+// A colour with one of the five schemes' letters. Every colour of a pass has one; that is known of what the rules reach and not of the
+// state, so it is tested here.
 fn colour_out(c: Colour) -> Colour
     ensures { λ r. ⌜ r ≡ colourOf (paintOf c) ⌝ }
 {
@@ -248,8 +153,8 @@ pub fn answer(st: State) -> Reading
                 records: st.records,
                 entries: st.entries,
                 pages: e.ordinal,
-                h: read_effects::shown(e.h),
-                v: read_effects::shown(e.v),
+                h: read_environment::shown(e.h),
+                v: read_environment::shown(e.v),
             },
             glyph: colour_out(e.ink),
             fill: colour_out(e.paint),

@@ -31,10 +31,12 @@ use Rattle.read_model.specs.Words.{allWide, wordHere, wordEnd, wordOn, wordTo}
 use Rattle.read_model.specs.Fits.{EnvFits, Ends, CommandIn, isRefused}
 use Rattle.read_model.specs.Turns.{mountAt, blockNow, didAt, nextOf, scratchAfter, halted, goneTo, filling, fillsRecords, fillsEntries, emitted, doneOf, skipped, turnOn, turnOf, scratchOf}
 use Rattle.read_model.proofs.Fits.{command-fits, did-fits, later}
-use Rattle.read_effects.specs.Bounds.{Fits, Small, WordFits}
-use Rattle.read_effects.proofs.Spelling.{here-fits}
+use Rattle.read_environment.specs.Bounds.{Fits}
+use Rattle.read_word.specs.Bounds.{Small, WordFits}
+use Rattle.read_word.proofs.Spelling.{here-fits}
+use Rattle.read_next.proofs.Places.{next-most}
 use Rattle.read_turn.specs.Ready.{findIn, Scratch, Ready}
-use Rattle.read_turn.proofs.Turning.{next-most, found-most}
+use Rattle.read_mount.proofs.Mounts.{found-most}
 
 -- ---- what a command gives to the rows is within the bounds that filling asks
 

@@ -1,9 +1,2 @@
-pub mod Bounds
-pub mod Fitting
-pub mod Lines
 pub mod Loading
-pub mod Lookups
-pub mod Names
-pub mod Rows
-pub mod Texts
 pub mod Turns

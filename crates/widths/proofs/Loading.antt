@@ -11,10 +11,12 @@ use lib.Seq.{drop-drop}
 use Rattle.rules.specs.Widths.{Line, Widths, Due, unitDue, blockDue, widthDue, LineRead, wrongLine, rightLine, linesFrom, lineOn, listEnds, linesSay, unsound, sound, widthList}
 use Rattle.laws.proofs.Cases.{on}
 use Rattle.scan_lex.proofs.Lines.{line-first}
-use Rattle.widths.specs.declared.State.{State}
+use Rattle.widths_line.specs.declared.State.{State}
+use Rattle.widths_line.specs.Reading.{Holds, After}
 use Rattle.widths.specs.declared.ListAnswer.the-variants.{Unsound, Sound}
 use Rattle.widths.specs.Table.{listOf, Loaded}
-use Rattle.widths.specs.Reading.{Holds, After, Told, Good, Room, turnSays, lengthAt, lineAt}
+use Rattle.widths_font.specs.Fonts.{Told, Good, Room}
+use Rattle.widths.specs.Lines.{turnSays, lengthAt, lineAt}
 
 abbrev linesAt : List ℕ → ℕ → List Line
 linesAt list at = linesFrom at (drop at list)

@@ -12,9 +12,11 @@ use lib.ListN.{length, take, drop, length-take, length-drop}
 use lib.Seq.{take-take, drop-drop}
 use Rattle.rules.specs.Bytes.{bytes, same, isNotNewline}
 use Rattle.rules.specs.Widths.{Widths, Due, unitDue, blockDue, widthDue, behind}
-use Rattle.widths.specs.declared.State.{State}
-use Rattle.widths.specs.Slots.{partOf}
-use Rattle.widths.specs.Reading.{Holds, After, LineJudged, Stored, Told, unitSays, byteSays, fontSays, blockSays, widthSays, turnSays, lengthAt}
+use Rattle.widths_line.specs.declared.State.{State}
+use Rattle.widths_table.specs.Slots.{partOf}
+use Rattle.widths_line.specs.Reading.{Holds, After, LineJudged, Stored, unitSays, byteSays, widthSays}
+use Rattle.widths_font.specs.Fonts.{Told, fontSays}
+use Rattle.widths.specs.Lines.{blockSays, turnSays, lengthAt}
 use Rattle.scan_lex.specs.At.{runEnd}
 use Rattle.scan_lex.proofs.Runs.{run-from, run-within}
 use Rattle.scan_lex.proofs.Lines.{line-from, key-short, key-on, key-off, drop-take}

@@ -1,3 +1,2 @@
-pub mod Reading
-pub mod Slots
+pub mod Lines
 pub mod Table

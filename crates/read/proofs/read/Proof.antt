@@ -60,11 +60,11 @@ use Rattle.rowkit.proofs.Rows.{refAt, asks, LentAgain}
 use Rattle.rowkit.proofs.Lends.{Goes-two, Comes-two, Left-two, lends-two}
 use Rattle.rowkit.proofs.Local.{local-out, local-in, big-lit}
 use Rattle.rowkit.proofs.Locals.{row-out, row-in, Goes-row, Comes-row, Left-row, lends-row}
-use Rattle.read.proofs.Twice.{passFrom, first-sound, judged-scratch, again-sound, last-fits, reads-as}
-use Rattle.read.proofs.room as room-fn
-use Rattle.read.proofs.room.Symbol as room-def
-use Rattle.read.proofs.room.Symbol.{name as #read·room}
-use Rattle.read.proofs.room.Met as room-thm
+use Rattle.read_twice.proofs.Twice.{passFrom, first-sound, judged-scratch, again-sound, last-fits, reads-as}
+use Rattle.read_scratch.proofs.room as room-fn
+use Rattle.read_scratch.proofs.room.Symbol as room-def
+use Rattle.read_scratch.proofs.room.Symbol.{name as #read-scratch·room}
+use Rattle.read_scratch.proofs.room.Met as room-thm
 use Rattle.read_setup.proofs.start as start-fn
 use Rattle.read_setup.proofs.start.Symbol as start-def
 use Rattle.read_setup.proofs.start.Symbol.{name as #read-setup·start}
@@ -318,7 +318,7 @@ module _ {M : Type 1} (𝓤 : URA M) (H : Heap 𝓤) (A : Atoms 𝓤) (W : Given
             move t (4 ∷ []) $ use1 W ((‵ (flft (ν₂ ∷ []) fullShare) ⊛ ‵ (finally u32 δ₂ (ended .scratch))) ⊛ (‵ (flft κ₀ q₀) ⊛ ‵ (flft κ₁ q₁) ⊛ ‵ ftrue)) (id⊢ 𝓤 _) $ split t $ split t $ move t (2 ∷ []) $ split t $ move t (1 ∷ []) $ split t $ move t (1 ∷ []) $ drop t $
             move t (2 ∷ 3 ∷ 10 ∷ 4 ∷ 5 ∷ 6 ∷ 7 ∷ 9 ∷ 1 ∷ 8 ∷ 0 ∷ []) $ row-in 𝓤 H A W u32 l 0 xs (wsv l) t tt ν₂ δ₂ (ended .scratch) (λ len. k u gs′ zs′ gl el len d)))
 
-  module _ (𝓣 : Tables 𝓤 H) (known-room : Triple 𝓤 (𝓣 .C #read·room) (Rooms 𝓤 H A mem run)) (known-start : Triple 𝓤 (𝓣 .C #read-setup·start) (Starts 𝓤 H A mem run)) (known-again : Triple 𝓤 (𝓣 .C #read-setup·again) (Agains 𝓤 H A mem run)) (known-answer : Triple 𝓤 (𝓣 .C #read-setup·answer) (Answers 𝓤 H A mem run))
+  module _ (𝓣 : Tables 𝓤 H) (known-room : Triple 𝓤 (𝓣 .C #read-scratch·room) (Rooms 𝓤 H A mem run)) (known-start : Triple 𝓤 (𝓣 .C #read-setup·start) (Starts 𝓤 H A mem run)) (known-again : Triple 𝓤 (𝓣 .C #read-setup·again) (Agains 𝓤 H A mem run)) (known-answer : Triple 𝓤 (𝓣 .C #read-setup·answer) (Answers 𝓤 H A mem run))
       (known-pass : Triple 𝓤 (𝓣 .C #read-pass·pass) (Passes 𝓤 H A mem run)) (s-fits : length ss < 2 ^ 64) (l-fits : length ls < 2 ^ 64) (g-room : Room TG.the-row (length ys)) (e-room : Room TE.the-row (length es)) where
     abbrev C : Calls 𝓤 H
     C = 𝓣 .C
@@ -411,7 +411,7 @@ module _ {M : Type 1} (𝓤 : URA M) (H : Heap 𝓤) (A : Atoms 𝓤) (W : Given
         by ! (exits r gs₃ zs₃ (let y = reads-as ss ls ys es (d₀ .0) ws₁ (d₀ .1 .1 .0) (passFrom (d₁ .0) (ended l₅ ws₁ (d₀ .0) ys es .scratch) gs zs) (d₁ .1 .1) (d₂ .0) (d₂ .1 .1 .0) ws₂ (d₂ .1 .1 .1) (passFrom (d₃ .0) (ended l₅ ws₂ (d₂ .0) gs zs .scratch) gs₃ zs₃) (d₃ .1 .1) (d₀ .1 .1 .1) in (e ∙ y .0, y .1, y .2)) (gl₃ ∙ gl) (el₃ ∙ el) (answered r _ is)))))))))))))))))))))))))))))))))))))))))
 
 module _ {M : Type 1} (𝓤 : URA M) (H : Heap 𝓤) (A : Atoms 𝓤) (W : Given 𝓤 H A) (mem : Memory → SProp 𝓤) (run : Routine → Fun 𝓤) (𝓣 : Tables 𝓤 H)
-    (known-room : Triple 𝓤 (𝓣 .C #read·room) (Rooms 𝓤 H A mem run)) (known-start : Triple 𝓤 (𝓣 .C #read-setup·start) (Starts 𝓤 H A mem run)) (known-again : Triple 𝓤 (𝓣 .C #read-setup·again) (Agains 𝓤 H A mem run)) (known-answer : Triple 𝓤 (𝓣 .C #read-setup·answer) (Answers 𝓤 H A mem run)) (known-pass : Triple 𝓤 (𝓣 .C #read-pass·pass) (Passes 𝓤 H A mem run)) where
+    (known-room : Triple 𝓤 (𝓣 .C #read-scratch·room) (Rooms 𝓤 H A mem run)) (known-start : Triple 𝓤 (𝓣 .C #read-setup·start) (Starts 𝓤 H A mem run)) (known-again : Triple 𝓤 (𝓣 .C #read-setup·again) (Agains 𝓤 H A mem run)) (known-answer : Triple 𝓤 (𝓣 .C #read-setup·answer) (Answers 𝓤 H A mem run)) (known-pass : Triple 𝓤 (𝓣 .C #read-pass·pass) (Passes 𝓤 H A mem run)) where
   read-walks : Walks 𝓤 H A f.ended stayed (WpFn 𝓤 H (𝓣 .C) (𝓣 .Λ) code.function) (f.clauses 𝓤 H A mem run)
   read-walks = walked 𝓤 H A f.ended stayed (f.clauses 𝓤 H A mem run) (WpFn 𝓤 H (𝓣 .C) (𝓣 .Λ) code.function)
       (λ κs. (slice-vals, (slice-vals, (slice-vals, (slice-vals, tt)))))
@@ -432,7 +432,7 @@ read-spec 𝓤 H 𝓜 𝓖 𝓡 =
     entered 𝓤 H (tripleOf 𝓤 H (𝓖 .A) f.signature (f.spec 𝓤 H (𝓖 .A) (𝓜 .mem) (𝓡 .run)))
     (tables 𝓤 H 𝓜 𝓡 code.env .C) (tables 𝓤 H 𝓜 𝓡 code.env .Λ) #read·read code.function (code.unfolded 𝓤 H 𝓜 𝓡)
     (read-meets 𝓤 H (𝓖 .A) (givenOf 𝓤 H 𝓜 𝓖) (𝓜 .mem) (𝓡 .run) (tablesOf 𝓤 H 𝓜 (tables 𝓤 H 𝓜 𝓡 code.env))
-    (cited 𝓤 H (Rooms 𝓤 H (𝓖 .A) (𝓜 .mem) (𝓡 .run)) 𝓜 𝓡 code.env #read·room room-def.routine code.calls-read·room (room-thm.met 𝓤 H 𝓜 𝓖 𝓡))
+    (cited 𝓤 H (Rooms 𝓤 H (𝓖 .A) (𝓜 .mem) (𝓡 .run)) 𝓜 𝓡 code.env #read-scratch·room room-def.routine code.calls-read-scratch·room (room-thm.met 𝓤 H 𝓜 𝓖 𝓡))
     (cited 𝓤 H (Starts 𝓤 H (𝓖 .A) (𝓜 .mem) (𝓡 .run)) 𝓜 𝓡 code.env #read-setup·start start-def.routine code.calls-read-setup·start (start-thm.met 𝓤 H 𝓜 𝓖 𝓡))
     (cited 𝓤 H (Agains 𝓤 H (𝓖 .A) (𝓜 .mem) (𝓡 .run)) 𝓜 𝓡 code.env #read-setup·again again-def.routine code.calls-read-setup·again (again-thm.met 𝓤 H 𝓜 𝓖 𝓡))
     (cited 𝓤 H (Answers 𝓤 H (𝓖 .A) (𝓜 .mem) (𝓡 .run)) 𝓜 𝓡 code.env #read-setup·answer answer-def.routine code.calls-read-setup·answer (answer-thm.met 𝓤 H 𝓜 𝓖 𝓡))

@@ -6,4 +6,4 @@ pub did-spec : {M : Type 1} → statement M
 did-spec =
     tie.close
     (tie.spec
-    (λ c. search arms) (λ c κs. search arms) (λ c. search arms) (λ c κs. search arms) (λ c. search arms) (λ c κs. search arms) (λ c. search arms) (λ c κs. search arms) (λ c. search arms) (λ c κs. search arms) (λ c. search arms) (λ c κs. search arms) (λ c. search arms) (λ c κs. search arms) (λ c. search arms) (λ c. search arms) (λ c κs. search arms) (λ c κs. search arms) (λ c. search arms) (λ c κs. search arms) (λ c. search arms) (λ c κs. search arms) (λ c κs. search arms) (λ c. search arms) (λ c κs. search arms) (λ c. search arms) (λ c κs. search arms) (λ c. search arms) (λ c κs. search arms) (λ c. search arms) (λ c κs. search arms) (λ c. search arms) (λ c κs. search arms) (λ c κs. search arms) (λ c. search arms) (λ c κs. search arms) (λ c. search arms) (λ c κs. search arms) (λ c. search arms) (λ c κs. search arms) (λ c. search arms) (λ c κs. search arms) (λ c. search arms) (λ c κs. search arms) (λ c. search arms) (λ c κs. search arms) (λ c. search arms) (λ c κs. search arms) (λ c. search arms) (λ c κs. search arms) (λ c. search arms) (λ c κs. search arms) (λ c. search arms) (λ c. search arms) (λ c. search arms) (λ c. search arms) (λ c. search arms) (λ c. search arms) (λ c. search arms) (λ c. search arms) (λ c. search arms) (λ c. search arms) (λ c. search arms) (λ c. search arms) (λ c. search arms) (λ c. search arms) (λ c. search arms) (λ c. search arms) (λ c. search arms) (λ c. search arms) (λ c. search arms) (λ c. search arms) (λ c. search arms) (λ c. search arms) (λ c. search arms) (λ c. search arms))
+    (λ c. search arms) (λ c κs. search arms) (λ c. search arms) (λ c κs. search arms) (λ c. search arms) (λ c κs. search arms) (λ c. search arms) (λ c κs. search arms) (λ c. search arms) (λ c κs. search arms) (λ c. search arms) (λ c κs. search arms) (λ c. search arms) (λ c κs. search arms) (λ c. search arms) (λ c. search arms) (λ c κs. search arms) (λ c κs. search arms) (λ c. search arms) (λ c κs. search arms) (λ c. search arms) (λ c κs. search arms) (λ c κs. search arms) (λ c. search arms) (λ c κs. search arms) (λ c. search arms) (λ c κs. search arms) (λ c κs. search arms) (λ c κs. search arms) (λ c. search arms) (λ c. search arms) (λ c. search arms) (λ c. search arms) (λ c. search arms) (λ c. search arms) (λ c. search arms) (λ c. search arms) (λ c. search arms) (λ c. search arms) (λ c. search arms) (λ c. search arms) (λ c. search arms) (λ c. search arms))

@@ -1,5 +1,5 @@
 -- `read_rows::fill_word` meets its contract: a walk of its MIR, by hand, with a loop over the bytes of a word.
--- The loop's state is (n, (d, (i, row))): n bytes are left, d is what is left of the word, i the place of its next record, and row the row as it stands (`Turns.antt`). Each turn calls `read_effects::word_step` (`asks`) and the setter (`puts`).
+-- The loop's state is (n, (d, (i, row))): n bytes are left, d is what is left of the word, i the place of its next record, and row the row as it stands (`Turns.antt`). Each turn calls `read_word::word_step` (`asks`) and the setter (`puts`).
 -- Contexts: [the row; its token; s; its token; ws; its token; _12; …; _0; …]. Local j stands at 6 + 2 · (12 − j).
 use mathlib.Core.Path.{_≡_, refl, sym, _∙_, ap, subst}
 use Prim.Native.Nat.{ℕ, zero, suc, _<_, _≤_, _+_, _-_, _^_}
@@ -43,23 +43,23 @@ use denote.Signature.{plain}
 use Rattle.rules.specs.declared.Record.{Record}
 use Rattle.read_model.specs.declared.Word.{Word}
 use Rattle.read_model.specs.Passes.{wordFill}
-use Rattle.read_effects.specs.declared.Spelt.{Spelt}
-use Rattle.read_effects.specs.Bounds.{WordFits, Small, Goes}
-use Rattle.read_effects.specs.Parts.{speltOf}
+use Rattle.read_word.specs.declared.Spelt.{Spelt}
+use Rattle.read_word.specs.Bounds.{WordFits, Small, Goes}
+use Rattle.read_word.specs.Parts.{speltOf}
 use Rattle.read_rows.specs.Words.{WordIn}
 use Rattle.read_rows.proofs.Filling.{fill-next, fill-done, next-goes, next-in}
 use Rattle.rules.proofs.Record as TG
 use Rattle.rules.proofs.Record.Laws as TG′
 use Rattle.read_model.proofs.Word as TW
 use Rattle.read_model.proofs.Word.Laws as TW′
-use Rattle.read_effects.proofs.Spelt as TX
-use Rattle.read_effects.proofs.Spelt.Laws as TX′
+use Rattle.read_word.proofs.Spelt as TX
+use Rattle.read_word.proofs.Spelt.Laws as TX′
 use Rattle.rowkit.proofs.Rows.{refAt, Put, puts, asks}
 use Rattle.rowkit.proofs.Turns.{Again, by-turns}
-use Rattle.read_effects.proofs.word_step as word-step
-use Rattle.read_effects.proofs.word_step.Symbol as word-step-def
-use Rattle.read_effects.proofs.word_step.Symbol.{name as #read-effects·word-step}
-use Rattle.read_effects.proofs.word_step.Met as word-step-thm
+use Rattle.read_word.proofs.word_step as word-step
+use Rattle.read_word.proofs.word_step.Symbol as word-step-def
+use Rattle.read_word.proofs.word_step.Symbol.{name as #read-word·word-step}
+use Rattle.read_word.proofs.word_step.Met as word-step-thm
 use Rattle.read_rows.proofs.put_record.Symbol as put-record-def
 use Rattle.read_rows.proofs.put_record.Symbol.{name as #read-rows·put-record}
 use Rattle.read_rows.proofs.put_record.Met as put-record-thm
@@ -171,7 +171,7 @@ module _ {M : Type 1} (𝓤 : URA M) (H : Heap 𝓤) (A : Atoms 𝓤) (W : Given
       split ! $ nothing ! $ move ! (2 ∷ 0 ∷ []) $ join ! $ move ! (1 ∷ 0 ∷ []) $ join ! $ frame ! $
       split ! $ nothing ! $ move ! (3 ∷ 0 ∷ []) $ fjoin ! $ move ! (2 ∷ 0 ∷ []) $ fjoin ! $ move ! (1 ∷ 0 ∷ []) $ fjoin ! $ done !
 
-  module _ (𝓣 : Tables 𝓤 H) (known-step : Triple 𝓤 (𝓣 .C #read-effects·word-step) (Steps 𝓤 H A mem run)) (known-put : Triple 𝓤 (𝓣 .C #read-rows·put-record) (Put TG.the-row 𝓤 H A))
+  module _ (𝓣 : Tables 𝓤 H) (known-step : Triple 𝓤 (𝓣 .C #read-word·word-step) (Steps 𝓤 H A mem run)) (known-put : Triple 𝓤 (𝓣 .C #read-rows·put-record) (Put TG.the-row 𝓤 H A))
       (room : Room TG.the-row (length ys)) (s-fits : length ss < 2 ^ 64) (t-fits : length ts < 2 ^ 64) (k-fits : k < 2 ^ 64) (w-is : Is TW.the-row w (wv w ∷ [])) (asked : WordIn ss ts (length ys) k w) where
     abbrev C : Calls 𝓤 H
     C = 𝓣 .C
@@ -290,7 +290,7 @@ module _ {M : Type 1} (𝓤 : URA M) (H : Heap 𝓤) (A : Atoms 𝓤) (W : Given
         assigns ! (of-opd ! (load ! (from ! (stop !)) (look ! 22 refl))) (from ! (stop !)) (init ! 16 refl (tt, record { fits = k-fits })) $
         starts l₀ l₁ l₂ l₃ l₄ l₅ l₆ l₇ l₈ l₉ l₁₀ l₁₁ l₁₂ (record { runs = refl; left-is = refl; within = asked; same = refl; is = w-is }))))))))))))))
 
-module _ {M : Type 1} (𝓤 : URA M) (H : Heap 𝓤) (A : Atoms 𝓤) (W : Given 𝓤 H A) (mem : Memory → SProp 𝓤) (run : Routine → Fun 𝓤) (𝓣 : Tables 𝓤 H) (known-step : Triple 𝓤 (𝓣 .C #read-effects·word-step) (Steps 𝓤 H A mem run)) (known-put : Triple 𝓤 (𝓣 .C #read-rows·put-record) (Put TG.the-row 𝓤 H A)) where
+module _ {M : Type 1} (𝓤 : URA M) (H : Heap 𝓤) (A : Atoms 𝓤) (W : Given 𝓤 H A) (mem : Memory → SProp 𝓤) (run : Routine → Fun 𝓤) (𝓣 : Tables 𝓤 H) (known-step : Triple 𝓤 (𝓣 .C #read-word·word-step) (Steps 𝓤 H A mem run)) (known-put : Triple 𝓤 (𝓣 .C #read-rows·put-record) (Put TG.the-row 𝓤 H A)) where
   fill-walks : Walks 𝓤 H A f.ended stayed (WpFn 𝓤 H (𝓣 .C) (𝓣 .Λ) code.function) (f.clauses 𝓤 H A mem run)
   fill-walks = walked 𝓤 H A f.ended stayed (f.clauses 𝓤 H A mem run) (WpFn 𝓤 H (𝓣 .C) (𝓣 .Λ) code.function)
       (λ κs. (slice-vals, (slice-vals, (slice-vals, (uint-vals w64, (LL.vals TW.the-type TW′.the-laws, tt)))))) (λ κs. (mut-slice-tells (named 0) (κs .0) TG.the-row, (shr-slice-tells (named 1) (κs .1 .0) u8, (shr-slice-tells (named 2) (κs .1 .1 .0) u32, (uint-tells w64, (LL.tells TW.the-type TW′.the-laws, tt))))))
@@ -309,5 +309,5 @@ fill-word-spec 𝓤 H 𝓜 𝓖 𝓡 =
     entered 𝓤 H (tripleOf 𝓤 H (𝓖 .A) f.signature (f.spec 𝓤 H (𝓖 .A) (𝓜 .mem) (𝓡 .run)))
     (tables 𝓤 H 𝓜 𝓡 code.env .C) (tables 𝓤 H 𝓜 𝓡 code.env .Λ) #read-rows·fill-word code.function (code.unfolded 𝓤 H 𝓜 𝓡)
     (fill-meets 𝓤 H (𝓖 .A) (givenOf 𝓤 H 𝓜 𝓖) (𝓜 .mem) (𝓡 .run) (tablesOf 𝓤 H 𝓜 (tables 𝓤 H 𝓜 𝓡 code.env))
-    (cited 𝓤 H (Steps 𝓤 H (𝓖 .A) (𝓜 .mem) (𝓡 .run)) 𝓜 𝓡 code.env #read-effects·word-step word-step-def.routine code.calls-read-effects·word-step (word-step-thm.met 𝓤 H 𝓜 𝓖 𝓡))
+    (cited 𝓤 H (Steps 𝓤 H (𝓖 .A) (𝓜 .mem) (𝓡 .run)) 𝓜 𝓡 code.env #read-word·word-step word-step-def.routine code.calls-read-word·word-step (word-step-thm.met 𝓤 H 𝓜 𝓖 𝓡))
     (cited 𝓤 H (Put TG.the-row 𝓤 H (𝓖 .A)) 𝓜 𝓡 code.env #read-rows·put-record put-record-def.routine code.calls-read-rows·put-record (put-record-thm.met 𝓤 H 𝓜 𝓖 𝓡)))

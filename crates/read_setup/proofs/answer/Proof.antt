@@ -3,7 +3,7 @@ use Rattle.read_setup.proofs.answer.Statement.{statement}
 use Rattle.read_setup.proofs.answer.Tie as tie
 use Rattle.read_setup.proofs.answer.Reads as reads
 use Rattle.read_setup.proofs.answer.Lts as lts
-use Rattle.read_effects.proofs.shown.Reads as shown-reads
+use Rattle.read_environment.proofs.shown.Reads as shown-reads
 use Rattle.read_setup.proofs.colour_out.Reads as colour-out-reads
 use Rattle.read_setup.proofs.no_colour.Reads as no-colour-reads
 

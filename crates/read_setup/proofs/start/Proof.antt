@@ -1,70 +1,28 @@
+-- `read_setup::start` meets its contract. That the stream's bytes are bytes is known of any slice by its type.
+use native.Mathlib.Omega.{arith}
+use denote.Ref.{now}
+use Rattle.read_setup.specs.Setup.{AreBytes}
 use Rattle.read_setup.proofs.Planning.{planning}
 use Rattle.read_setup.proofs.start.Statement.{statement}
 use Rattle.read_setup.proofs.start.Tie as tie
-use Rattle.read_setup.proofs.start.Reads as reads
-use Rattle.read_setup.proofs.start.Lts as lts
-use Rattle.read_setup.proofs.are_bytes.Reads as are-bytes-reads
-use Rattle.read_setup.proofs.begin.Reads as begin-reads
-use Rattle.read_setup.proofs.load.Reads as load-reads
-use Rattle.read_setup.proofs.refused.Reads as refused-reads
 
-are-bytes-requires : tie.Need-are-bytes-requires
-are-bytes-requires c κs = search planning
-
-refused-requires : tie.Need-refused-requires
-refused-requires c κs = search planning
+bytes-of : (c : tie.After-shared-slice-known) → AreBytes (now (c .before .before .args .s))
+bytes-of c = record { each = λ i. omega (arith, c .shared-slice-known .given i) }
 
 returns : tie.Need-returns
-returns c = search planning
-
-refused-requires-2 : tie.Need-refused-requires-2
-refused-requires-2 c κs = search planning
+returns c = (search planning, bytes-of (c .before .before .before))
 
 returns-2 : tie.Need-returns-2
-returns-2 c = search planning
-
-load-requires : tie.Need-load-requires
-load-requires c κs = search planning
-
-enum-known-offset : tie.Need-enum-known-offset
-enum-known-offset c = search planning
-
-refused-requires-3 : tie.Need-refused-requires-3
-refused-requires-3 c κs = search planning
-
-enum-known-unitwidth : tie.Need-enum-known-unitwidth
-enum-known-unitwidth c = search planning
-
-begin-requires : tie.Need-begin-requires
-begin-requires c κs = search planning
-
-same-length : tie.Need-same-length
-same-length c = search planning
+returns-2 c = (search planning, bytes-of (c .before .before .before .before))
 
 returns-3 : tie.Need-returns-3
-returns-3 c = search planning
-
-same-length-2 : tie.Need-same-length-2
-same-length-2 c = search planning
+returns-3 c = (search planning, bytes-of (c .before .before .before .before .before .before .before .before .before .before .before))
 
 returns-4 : tie.Need-returns-4
-returns-4 c = search planning
+returns-4 c = (search planning, bytes-of (c .before .before .before .before .before .before .before .before .before .before .before))
 
 pub start-spec : {M : Type 1} → statement M
 start-spec =
     tie.close
     (tie.spec
-    are-bytes-requires
-    refused-requires
-    returns
-    refused-requires-2
-    returns-2
-    load-requires
-    enum-known-offset
-    refused-requires-3
-    enum-known-unitwidth
-    begin-requires
-    same-length
-    returns-3
-    same-length-2
-    returns-4)
+    (λ c κs. search planning) returns (λ c κs. search planning) returns-2 (λ c κs. search planning) (λ c. search planning) (λ c κs. search planning) (λ c. search planning) (λ c κs. search planning) (λ c. search planning) returns-3 (λ c. search planning) returns-4)

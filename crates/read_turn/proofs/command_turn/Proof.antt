@@ -4,7 +4,7 @@ use Rattle.read_turn.proofs.command_turn.Tie as tie
 use Rattle.read_turn.proofs.command_turn.Reads as reads
 use Rattle.read_turn.proofs.command_turn.Lts as lts
 use Rattle.read_turn.proofs.command_at.Reads as command-at-reads
-use Rattle.read_turn.proofs.mounting.Reads as mounting-reads
+use Rattle.read_mount.proofs.mounting.Reads as mounting-reads
 use Rattle.read_turn.proofs.turned.Reads as turned-reads
 
 command-at-requires : tie.Need-command-at-requires

@@ -6,7 +6,7 @@ use Rattle.read_turn.proofs.turn.Lts as lts
 use Rattle.scan_lex.proofs.is_white.Reads as is-white-reads
 use Rattle.scan_lex.proofs.line_end.Reads as line-end-reads
 use Rattle.read_turn.proofs.command_turn.Reads as command-turn-reads
-use Rattle.read_turn.proofs.skipped.Reads as skipped-reads
+use Rattle.read_count.proofs.skipped.Reads as skipped-reads
 
 shared-slice-read-b : tie.Need-shared-slice-read-b
 shared-slice-read-b c = search turn-laws

@@ -4,8 +4,8 @@ use Rattle.read_turn.proofs.turned.Tie as tie
 use Rattle.read_turn.proofs.turned.Reads as reads
 use Rattle.read_turn.proofs.turned.Lts as lts
 use Rattle.read_turn.proofs.did_at.Reads as did-at-reads
-use Rattle.read_turn.proofs.done.Reads as done-reads
-use Rattle.read_turn.proofs.next_of.Reads as next-of-reads
+use Rattle.read_count.proofs.done.Reads as done-reads
+use Rattle.read_next.proofs.next_of.Reads as next-of-reads
 
 did-at-requires : tie.Need-did-at-requires
 did-at-requires c κs = search commanding

@@ -1,6 +1,0 @@
-use Rattle.read_effects.proofs.Steps.{steps}
-use Rattle.read_effects.proofs.refused_on.Statement.{statement}
-use Rattle.read_effects.proofs.refused_on.Tie as tie
-
-pub refused-on-spec : {M : Type 1} → statement M
-refused-on-spec = tie.close (tie.spec (λ c κs. search steps) (λ c κs. search steps) (λ c. search steps) (λ c. search steps))

@@ -1,0 +1,4 @@
+pub mod Bias
+pub mod Tests
+pub mod Answers
+pub mod Helpers

@@ -1,6 +1,0 @@
-use Rattle.widths.proofs.Lines.{lines}
-use Rattle.widths.proofs.can_follow.Statement.{statement}
-use Rattle.widths.proofs.can_follow.Tie as tie
-
-pub can-follow-spec : {M : Type 1} → statement M
-can-follow-spec = tie.close (tie.spec (λ c κs. search lines) (λ c. search lines))

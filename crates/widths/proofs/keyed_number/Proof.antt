@@ -1,9 +1,0 @@
-use Rattle.widths.proofs.Texts.{texts}
-use Rattle.widths.proofs.keyed_number.Statement.{statement}
-use Rattle.widths.proofs.keyed_number.Tie as tie
-
-pub keyed-number-spec : {M : Type 1} → statement M
-keyed-number-spec =
-    tie.close
-    (tie.spec
-    (λ c. search texts) (λ c. search texts) (λ c κs. search texts) (λ c. search texts) (λ c. search texts) (λ c. search texts) (λ c κs. search texts) (λ c. search texts) (λ c. search texts))

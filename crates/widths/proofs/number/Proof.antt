@@ -1,9 +1,0 @@
-use Rattle.widths.proofs.Texts.{texts}
-use Rattle.widths.proofs.number.Statement.{statement}
-use Rattle.widths.proofs.number.Tie as tie
-
-pub number-spec : {M : Type 1} → statement M
-number-spec =
-    tie.close
-    (tie.spec
-    (λ c. search texts) (λ c κs. search texts) (λ c. search texts) (λ c. search texts) (λ c. search texts) (λ c κs. search texts) (λ c. search texts))
