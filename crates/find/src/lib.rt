@@ -29,13 +29,13 @@ fn no_entries() -> [Entry; 1] {
 pub fn find(s: &[u8], list: &[u8], q: &[u8], records: &mut [Record], hits: &mut [u32]) -> Finding
     ensures { λ r. ⌜ (r ≡ findingOf (findInto (length (now (records .entry))) (length (now (hits .entry))) (now (s .entry)) (now (list .entry)) (now (q .entry)))) × (now (records .exit) ≡ recordsFound (now (records .entry)) (findInto (length (now (records .entry))) (length (now (hits .entry))) (now (s .entry)) (now (list .entry)) (now (q .entry)))) × (now (hits .exit) ≡ hitsOver (now (hits .entry)) (findInto (length (now (records .entry))) (length (now (hits .entry))) (now (s .entry)) (now (list .entry)) (now (q .entry)))) ⌝ }
 {
-    let mut ws = read::room();
+    let mut ws = read_scratch::room();
     let mut rows = query_room();
     let mut none = no_entries();
-    let x = find_setup::ask(&mut rows, q);
+    let x = find_ask::ask(&mut rows, q);
     let a = find_setup::start(&mut ws, s, list, x);
     let b = read_pass::pass(records, &mut none, &mut ws, s, list, a);
-    let too = find_setup::too_many(&rows, s, q, b, hits.len());
+    let too = find_room::too_many(&rows, s, q, b, hits.len());
     let c = find_setup::again(&mut ws, b, s.len(), records.len(), too);
     let d = read_pass::pass(records, &mut none, &mut ws, s, list, c);
     let g = find_setup::progress(d, &rows, hits.len());

@@ -1,25 +1,24 @@
 -- Records found one by one, a query at one of them, and how many hits there are.
-use Prim.Native.Nat.{ℕ, zero, suc, _+_, _*_, _-_, _<_, _≤_}
+use Prim.Native.Nat.{ℕ, zero, suc, _+_, _-_, _<_, _≤_}
 use native.Mathlib.Omega.{arith}
-use mathlib.Core.Bool.{Bool, true, false, not, _&&_}
-use mathlib.Core.List.{List, [], _∷_, _++_, map}
-use mathlib.Core.Option.{Option, none, some}
-use mathlib.Core.Path.{_≡_, refl, sym, ap, ap₂, subst, _∙_}
-use lib.Dec.{ltb, eqb}
-use lib.ListN.{length, length-append}
+use mathlib.Core.Bool.{Bool, true, false, _&&_}
+use mathlib.Core.List.{List, [], _∷_, map}
+use mathlib.Core.Path.{_≡_, refl, sym, ap, _∙_}
+use lib.Dec.{ltb}
+use lib.ListN.{length}
 use borrow.Author.Needs.{needs}
-use borrow.Author.Tests.{lt-ltb, le-ltb}
 use Rattle.rules.specs.Bytes.{if_then_else_}
-use Rattle.rules.specs.Find.{Wanted, otherPage, otherName, gapPresent, gapAbsent, glyphTest, passes, goesOn, occurs, hitsFrom, Key as RulesKey, Reason as RulesReason}
+use Rattle.rules.specs.Find.{Wanted, glyphTest, passes, goesOn, occurs, hitsFrom, Key as RulesKey}
 use Rattle.laws.proofs.Cases.{on, no as impossible, and-left}
 use Rattle.find_match.specs.declared.Key.{Key}
-use Rattle.find_match.specs.declared.Reason.{Reason}
-use Rattle.find_match.specs.declared.Reason.the-variants as R
-use Rattle.find_match.specs.Match.{keyIn, wantedIn, reasonOf}
-use Rattle.find_count.specs.declared.Outline.{Outline}
-use Rattle.find_count.specs.declared.Moved.{Moved}
-use Rattle.find_count.specs.Count.{passing, standing, moveOf, keysOn, keysFor, movesLeft, keysAt, Fair, Found, NextOf, wantedFrom, seenFrom, turnsLeft, Seen, isFit, standsAt, one}
-use Rattle.find_count.proofs.Keys.{Onward, move-on, keys-step, keys-over}
+use Rattle.find_match.specs.Match.{keyIn, wantedIn, wantedFrom}
+use Rattle.find_outline.specs.declared.Outline.{Outline}
+use Rattle.find_outline.specs.declared.Moved.{Moved}
+use Rattle.find_outline.specs.Move.{passing, standing, moveOf}
+use Rattle.find_keys.specs.Keys.{keysOn, keysFor, movesLeft, keysAt, Fair}
+use Rattle.find_count.specs.Count.{NextFound, NextOf, seenFrom, turnsLeft, Seen, standsAt, one}
+use Rattle.find_keys.proofs.Hits.{hits-few}
+use Rattle.find_keys.proofs.Keys.{Onward, move-on, keys-step, keys-over}
 
 -- ---- the next record
 
@@ -45,7 +44,7 @@ module _ (s : List ℕ) (o d : Outline) (v : Nexting s o d) where
     pub next-found : m .found ≡ true → NextOf s o m
     next-found t = record { told = go (m .found) t keys-here }
       where
-        go : (b : Bool) → b ≡ true → keysAt s o ≡ (if b then m .key ∷ keysAt s (m .on) else keysAt s (m .on)) → Found s o b (m .key) (m .on)
+        go : (b : Bool) → b ≡ true → keysAt s o ≡ (if b then m .key ∷ keysAt s (m .on) else keysAt s (m .on)) → NextFound s o b (m .key) (m .on)
         go true z k = (k, onward .fair, omega (arith, onward .less, v .less))
         go false z k = impossible z
 
@@ -66,37 +65,27 @@ module _ (s : List ℕ) (o : Outline) (m : Moved) (v : NextOf s o m) where
   pub following-seen : seenFrom s m ≡ map (keyIn s) (keysAt s o)
   following-seen = go (m .found) (v .told)
     where
-      go : (b : Bool) → Found s o b (m .key) (m .on) → (if b then keyIn s (m .key) ∷ map (keyIn s) (keysAt s (m .on)) else []) ≡ map (keyIn s) (keysAt s o)
+      go : (b : Bool) → NextFound s o b (m .key) (m .on) → (if b then keyIn s (m .key) ∷ map (keyIn s) (keysAt s (m .on)) else []) ≡ map (keyIn s) (keysAt s o)
       go true t = rw (t .0)
       go false t = rw t
 
   pub following-fair : Seen s m
   following-fair = record { fair = λ e. go (m .found) e (v .told) }
     where
-      go : (b : Bool) → b ≡ true → Found s o b (m .key) (m .on) → Fair (length s) (m .on)
+      go : (b : Bool) → b ≡ true → NextFound s o b (m .key) (m .on) → Fair (length s) (m .on)
       go true e t = t .1
       go false e t = impossible e
 
   pub following-less : turnsLeft s m ≤ movesLeft s o
   following-less = go (m .found) (v .told)
     where
-      go : (b : Bool) → Found s o b (m .key) (m .on) → (if b then suc (movesLeft s (m .on)) else 0) ≤ movesLeft s o
+      go : (b : Bool) → NextFound s o b (m .key) (m .on) → (if b then suc (movesLeft s (m .on)) else 0) ≤ movesLeft s o
       go true t = omega (arith, t .2)
       go false t = omega arith
 
 pub ruleset followings = (following-seen, following-fair, following-less, needs)
 
 -- ---- one glyph
-
-pub fit-is : (r : Reason) (x : Option RulesReason) (t : Bool) → r ≡ reasonOf x → t ≡ isFit r → t ≡ passes x
-fit-is r x t e f = f ∙ ap isFit e ∙ go x
-  where
-    go : (y : Option RulesReason) → isFit (reasonOf y) ≡ passes y
-    go none = refl
-    go (some otherPage) = refl
-    go (some otherName) = refl
-    go (some gapPresent) = refl
-    go (some gapAbsent) = refl
 
 module _ (s q rows : List ℕ) (j page : ℕ) (m : Moved) where
   pub stands-none : m .found ≡ false → false ≡ standsAt s q rows j page m
@@ -105,7 +94,7 @@ module _ (s q rows : List ℕ) (j page : ℕ) (m : Moved) where
   pub stands-fit : (k : Key) (r : Bool) → m .found ≡ true → k ≡ m .key → r ≡ passes (glyphTest page (wantedIn q rows j) (keyIn s k)) → r ≡ standsAt s q rows j page m
   stands-fit k r t g e = rw (t, ← g, e)
 
-pub ruleset fitting = (fit-is, stands-none, stands-fit, needs)
+pub ruleset fitting = (stands-none, stands-fit, needs)
 
 -- ---- the glyphs from one on
 
@@ -163,15 +152,6 @@ hits-cons : (qs : List Wanted) (k : RulesKey) (ks : List RulesKey) → length (h
 unfolding hitsFrom
 hits-cons qs k ks = on (occurs qs (k ∷ ks)) (λ z. rw z (let e : length (hitsFrom qs 1 ks) ≡ length (hitsFrom qs 0 ks) = hits-length qs 1 0 ks in omega arith)) (λ z. rw z (let e : length (hitsFrom qs 1 ks) ≡ length (hitsFrom qs 0 ks) = hits-length qs 1 0 ks in omega arith))
 
-hits-few : (qs : List Wanted) (ks : List RulesKey) → length (hitsFrom qs 0 ks) ≤ length ks
-unfolding hitsFrom
-hits-few qs [] = omega arith
-hits-few qs (k ∷ ks) = few (occurs qs (k ∷ ks)) (hits-cons qs k ks) (hits-few qs ks)
-  where
-    few : (b : Bool) → length (hitsFrom qs 0 (k ∷ ks)) ≡ one b + length (hitsFrom qs 0 ks) → length (hitsFrom qs 0 ks) ≤ length ks → length (hitsFrom qs 0 (k ∷ ks)) ≤ suc (length ks)
-    few true e h = omega arith
-    few false e h = omega arith
-
 keys-few : (f : ℕ) (s : List ℕ) (o : Outline) → length (keysFor f s o) ≤ f
 unfolding keysFor
 keys-few zero s o = omega arith
@@ -219,7 +199,7 @@ module _ (s : List ℕ) (qs : List Wanted) where
     counting-on t = v .seen .fair t
 
     total-few : length (hitsFrom qs 0 all) ≤ 40000000
-    total-few = omega (arith, hits-few qs all, map-length s (keysAt s (standing 0 0 0)), keys-few (movesLeft s (standing 0 0 0)) s (standing 0 0 0), v .short)
+    total-few = omega (arith, hits-few qs 0 all, map-length s (keysAt s (standing 0 0 0)), keys-few (movesLeft s (standing 0 0 0)) s (standing 0 0 0), v .short)
 
     module _ (t : m .found ≡ true) (b : Bool) (e : b ≡ occurs qs (seenFrom s m)) where
       counted : length (hitsFrom qs 0 (seenFrom s m)) ≡ one b + length (hitsFrom qs 0 (map (keyIn s) (keysAt s (m .on))))

@@ -1,4 +1,2 @@
-pub mod Moves
-pub mod Keys
-pub mod Outlines
+pub mod Steps
 pub mod Counting

@@ -1,20 +1,38 @@
--- The test of one glyph: the answer of each return, in the form in which `search` applies it.
-use Prim.Native.Nat.{ℕ, zero, suc, _+_, _<_, _≤_}
+-- A part of the stream or the query, and the test of one glyph: the answer of each return, in the form in which `search` applies it.
+use Prim.Native.Nat.{ℕ, zero, suc, _+_, _-_, _<_, _≤_}
 use native.Mathlib.Omega.{arith}
 use mathlib.Core.Bool.{Bool, true, false}
-use mathlib.Core.List.{List}
+use mathlib.Core.List.{List, []}
+use mathlib.Core.Option.{Option, none, some}
 use mathlib.Core.Path.{_≡_, refl, sym, ap, _∙_}
-use lib.Dec.{eqb}
-use lib.ListN.{length, getD}
+use lib.ListN.{length, take, drop, getD}
 use borrow.Author.Needs.{needs}
-use borrow.Author.Tests.{eq-eqb, ne-eqb}
-use Rattle.rules.specs.Bytes.{if_then_else_, same}
-use Rattle.rules.specs.Find.{gapTest, glyphTest, sameName}
-use Rattle.query.specs.Parts.{partIn}
+use borrow.Author.Tests.{le-leb, lt-leb, eq-eqb, ne-eqb}
+use Rattle.rules.specs.Bytes.{same}
+use Rattle.rules.specs.Find.{otherPage, otherName, gapPresent, gapAbsent, passes, gapTest, glyphTest, sameName, Reason as RulesReason}
+use Rattle.find_match.specs.Parts.{partIn}
 use Rattle.find_match.specs.declared.Key.{Key}
 use Rattle.find_match.specs.declared.Reason.{Reason}
 use Rattle.find_match.specs.declared.Reason.the-variants as R
-use Rattle.find_match.specs.Match.{keyIn, gapAt, wantedIn, reasonOf}
+use Rattle.find_match.specs.Match.{keyIn, gapAt, wantedIn, reasonOf, isFit}
+
+-- ---- a part
+module _ (s : List ℕ) (place len : ℕ) where
+  pub part-far : length s < place → [] ≡ partIn s place len
+  unfolding partIn
+  part-far h = rw (lt-leb (place + len) (length s) (omega arith))
+
+  pub part-long : place ≤ length s → length s - place < len → [] ≡ partIn s place len
+  unfolding partIn
+  part-long h k = rw (lt-leb (place + len) (length s) (omega arith))
+
+  pub part-inside : place ≤ length s → len ≤ length s - place → take (place + len - place) (drop place s) ≡ partIn s place len
+  unfolding partIn
+  part-inside h k =
+      let z : place + len - place ≡ len = omega arith in
+      rw (z, le-leb (place + len) (length s) (omega arith))
+
+pub ruleset part-laws = (part-far, part-long, part-inside, needs)
 
 -- ---- gaps
 
@@ -59,3 +77,17 @@ module _ (s q rows : List ℕ) (j page : ℕ) (k : Key) where
     same-name g r f c p = rw (eq-eqb (k .ordinal) page h, names, f, p, c)
 
 pub ruleset glyph-tests = (other-page, other-name, same-name, needs)
+
+-- ---- whether it fits
+
+pub fit-is : (r : Reason) (x : Option RulesReason) (t : Bool) → r ≡ reasonOf x → t ≡ isFit r → t ≡ passes x
+fit-is r x t e f = f ∙ ap isFit e ∙ go x
+  where
+    go : (y : Option RulesReason) → isFit (reasonOf y) ≡ passes y
+    go none = refl
+    go (some otherPage) = refl
+    go (some otherName) = refl
+    go (some gapPresent) = refl
+    go (some gapAbsent) = refl
+
+pub ruleset fit-tests = (fit-is, needs)

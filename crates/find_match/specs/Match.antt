@@ -1,14 +1,14 @@
 -- One record against one glyph of the query, as the code holds them.
 use Prim.Native.Nat.{ℕ, zero, suc, _+_, _<_}
-use mathlib.Core.List.{List}
+use mathlib.Core.Bool.{Bool, true, false}
+use mathlib.Core.List.{List, [], _∷_}
 use mathlib.Core.Option.{Option, none, some}
 use mathlib.Core.Path.{_≡_}
 use lib.ListN.{length, getD}
 use Rattle.rules.specs.declared.Record.{Record}
-use Rattle.rules.specs.Find.{Gap, anyGap, noGap, someGap, Wanted, otherPage, otherName, gapPresent, gapAbsent, glyphTest}
-use Rattle.rules.specs.Find.{Key as RulesKey, Reason as RulesReason}
+use Rattle.rules.specs.Find.{Gap, anyGap, noGap, someGap, Wanted, otherPage, otherName, gapPresent, gapAbsent, Key as RulesKey, Reason as RulesReason}
 use Rattle.laws_find.specs.Occurs.{wantedAt}
-use Rattle.query.specs.Parts.{partIn}
+use Rattle.find_match.specs.Parts.{partIn}
 use Rattle.find_match.specs.declared.Key.{Key}
 use Rattle.find_match.specs.declared.Reason.{Reason}
 use Rattle.find_match.specs.declared.Reason.the-variants as R
@@ -17,8 +17,8 @@ use Rattle.find_match.specs.declared.Reason.the-variants as R
 abbrev pub keyIn : List ℕ → Key → RulesKey
 keyIn s k = record { name = partIn s (k .place) (k .len); gap = k .gap; ordinal = k .ordinal }
 
-abbrev pub keyOf : Record → Key
-keyOf r = record { ordinal = r .ordinal; gap = r .gap; place = r .place; len = r .len }
+abbrev pub recordKey : Record → Key
+recordKey r = record { ordinal = r .ordinal; gap = r .gap; place = r .place; len = r .len }
 
 -- the row of the query has 193 places: the places of its names, from 64 on their lengths, from 128 on what each glyph asks of the
 -- gap mark, and at 192 how many glyphs there are
@@ -41,3 +41,15 @@ reasonOf (some otherPage) = R.OtherPage
 reasonOf (some otherName) = R.OtherName
 reasonOf (some gapPresent) = R.GapPresent
 reasonOf (some gapAbsent) = R.GapAbsent
+
+abbrev pub isFit : Reason → Bool
+isFit R.Fits = true
+isFit R.OtherPage = false
+isFit R.OtherName = false
+isFit R.GapPresent = false
+isFit R.GapAbsent = false
+
+-- k glyphs of the query from the one numbered j on
+unfoldable pub wantedFrom : ℕ → List ℕ → List ℕ → ℕ → List Wanted
+wantedFrom zero q rows j = []
+wantedFrom (suc k) q rows j = wantedIn q rows j ∷ wantedFrom k q rows (j + 1)

@@ -3,9 +3,9 @@ use rules::Record;
 ghost use mathlib.Core.Path.{_≡_};
 ghost use Prim.Native.Nat.{_<_};
 ghost use lib.ListN.{length};
-ghost use Rattle.rules.specs.Find.{gapTest, glyphTest};
-ghost use Rattle.query.specs.Parts.{partIn};
-ghost use Rattle.find_match.specs.Match.{keyIn, keyOf, gapAt, wantedIn, reasonOf};
+ghost use Rattle.rules.specs.Find.{passes, gapTest, glyphTest};
+ghost use Rattle.find_match.specs.Parts.{partIn};
+ghost use Rattle.find_match.specs.Match.{keyIn, recordKey, gapAt, wantedIn, reasonOf, isFit};
 
 // What finding looks at in a record.
 pub struct Key {
@@ -25,7 +25,7 @@ pub enum Reason {
 }
 
 pub fn key_of(r: Record) -> Key
-    ensures { λ k. ⌜ k ≡ keyOf r ⌝ }
+    ensures { λ k. ⌜ k ≡ recordKey r ⌝ }
 {
     Key {
         ordinal: r.ordinal,
@@ -35,11 +35,25 @@ pub fn key_of(r: Record) -> Key
     }
 }
 
+// The caller's part of s at a place with a length; the empty part where it does not lie in s.
+fn part<'a>(s: &'a [u8], place: usize, len: usize) -> &'a [u8]
+    ensures { λ r. ⌜ now r ≡ partIn (now (s .entry)) place len ⌝ }
+{
+    if s.len() < place {
+        return &s[..0];
+    }
+    if s.len() - place < len {
+        return &s[..0];
+    }
+    let end = place + len;
+    &s[place..end]
+}
+
 // The name of a record: the caller's part of the stream.
 pub fn name_of<'a>(s: &'a [u8], r: Record) -> &'a [u8]
     ensures { λ n. ⌜ now n ≡ partIn (now (s .entry)) (r .place) (r .len) ⌝ }
 {
-    query::part(s, r.place as usize, r.len as usize)
+    part(s, r.place as usize, r.len as usize)
 }
 
 // The gap mark against what the glyph asks of it: 0 nothing, 1 that it is not set, 2 that it is.
@@ -63,7 +77,7 @@ fn gap_test(asked: u32, gap: u32) -> Reason
     }
 }
 
-fn wide(x: u32) -> usize
+pub fn wide(x: u32) -> usize
     ensures { λ r. ⌜ r ≡ x ⌝ }
 {
     x as usize
@@ -79,11 +93,32 @@ pub fn test(s: &[u8], q: &[u8], rows: &[u32], j: usize, page: u32, k: Key) -> Re
     }
     let place = wide(rows[j]);
     let len = wide(rows[64 + j]);
-    let name = query::part(s, k.place, k.len);
-    let wanted = query::part(q, place, len);
+    let name = part(s, k.place, k.len);
+    let wanted = part(q, place, len);
     if scan_lex::same_bytes(name, wanted) {
         gap_test(rows[128 + j], k.gap)
     } else {
         Reason::OtherName
     }
+}
+
+fn is_fit(r: Reason) -> bool
+    ensures { λ t. ⌜ t ≡ isFit r ⌝ }
+{
+    match r {
+        Reason::Fits => true,
+        Reason::OtherPage => false,
+        Reason::OtherName => false,
+        Reason::GapPresent => false,
+        Reason::GapAbsent => false,
+    }
+}
+
+// Whether a record is the glyph numbered j, the first one being on a page.
+pub fn fits(s: &[u8], q: &[u8], rows: &[u32], j: usize, page: u32, k: Key) -> bool
+    requires { ⌜ (length (now rows) ≡ 193) × (j < 64) ⌝ }
+    ensures { λ r. ⌜ r ≡ passes (glyphTest page (wantedIn (now (q .entry)) (now (rows .entry)) j) (keyIn (now (s .entry)) k)) ⌝ }
+{
+    let r = test(s, q, rows, j, page, k);
+    is_fit(r)
 }

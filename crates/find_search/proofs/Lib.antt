@@ -1,3 +1,1 @@
-pub mod Feeding
 pub mod Looking
-pub mod Exact

@@ -1,35 +1,35 @@
 -- What is known of a search where a turn begins, and that a turn keeps it.
-use Prim.Native.Nat.{ℕ, zero, suc, _+_, _*_, _-_, _<_, _≤_}
+use Prim.Native.Nat.{ℕ, zero, suc, _+_, _-_, _<_, _≤_}
 use native.Mathlib.Omega.{arith}
-use mathlib.Core.Bool.{Bool, true, false}
-use mathlib.Core.List.{List, [], _∷_}
-use mathlib.Core.Path.{_≡_, refl, sym, ap, subst, _∙_}
+use mathlib.Core.Bool.{true, false}
+use mathlib.Core.List.{List}
+use mathlib.Core.Path.{_≡_, refl, sym, ap, _∙_}
 use lib.Dec.{ltb, eqb}
-use lib.ListN.{length, set, getD, length-set}
-use borrow.Author.Tests.{eq-eqb, ne-eqb, ltb-true, ltb-false, eqb-true}
+use lib.ListN.{length, getD, length-set}
+use borrow.Author.Tests.{eq-eqb, ne-eqb, ltb-true}
 use Rattle.rules.specs.declared.Record.{Record}
-use Rattle.rules.specs.Bytes.{if_then_else_}
 use Rattle.laws.proofs.Cases.{if-on, if-both, on, no as impossible}
-use Rattle.find_search.specs.declared.Progress.{Progress}
-use Rattle.find_search.specs.declared.Fed.{Fed}
-use Rattle.find_search.specs.declared.Act.{Act}
-use Rattle.find_search.specs.declared.Act.the-variants as A
-use Rattle.find_search.specs.Search.{leftAt, nextRecord, nextGlyph, pageOf, fitsAt, passed, hitAt, fitted, feedOf, Good, blank, hitsAfter, Looked, lookedAt, searchStepOf, searchFor, searchOf, SearchReady}
+use Rattle.find_compare.specs.declared.Progress.{Progress}
+use Rattle.find_compare.specs.declared.Fed.{Fed}
+use Rattle.find_compare.specs.declared.FindAct.{FindAct}
+use Rattle.find_compare.specs.declared.FindAct.the-variants as A
+use Rattle.find_compare.specs.Compare.{nextRecord, nextGlyph, pageOf, fitsAt, passed, hitAt, fitted, feedOf, SearchGood}
+use Rattle.find_search.specs.Search.{blank, hitsAfter, Looked, searchStepOf, searchFor, searchOf, SearchReady}
 
 -- what a turn gives to the row lies within the room
-abbrev pub InRow : Progress → Act → Type 0
+abbrev pub InRow : Progress → FindAct → Type 0
 InRow st (A.Hit k i) = k < st .hmax
 InRow st A.Pass = Unit {0}
 
 pub record Well (st : Progress) (x : Fed) : Type 0 where
   pub less : x .state .left < st .left
-  pub good : 0 < x .state .left → Good (x .state)
+  pub good : 0 < x .state .left → SearchGood (x .state)
   pub records : x .state .records ≡ st .records
   pub hmax : x .state .hmax ≡ st .hmax
   pub row : InRow st (x .act)
 
-module _ (st : Progress) (g : Good st) where
-  next-well : (a : Act) (hits : ℕ) → InRow st a → Well st (record { act = a; state = nextRecord st hits })
+module _ (st : Progress) (g : SearchGood st) where
+  next-well : (a : FindAct) (hits : ℕ) → InRow st a → Well st (record { act = a; state = nextRecord st hits })
   next-well a hits r = record {
     less = omega (arith, g .inside, g .glyph, g .most, g .left);
     good = λ z.
@@ -72,7 +72,7 @@ module _ (st : Progress) (g : Good st) where
   unfolding feedOf
   feed-well s q rows r = if-both (Well st) (fitsAt s q rows st r) (fitted st (pageOf st r)) (passed st) (fitted-well (pageOf st r)) passed-well
 
-hits-length : (hits : List ℕ) (a : Act) → length (hitsAfter hits a) ≡ length hits
+hits-length : (hits : List ℕ) (a : FindAct) → length (hitsAfter hits a) ≡ length hits
 hits-length hits (A.Hit k i) = length-set hits k i
 hits-length hits A.Pass = refl
 
@@ -80,7 +80,7 @@ module _ (s q rows : List ℕ) (recs : List Record) (p₀ : Looked) where
   pub record Known (k : ℕ) (p : Looked) : Type 0 where
     pub runs : searchFor k s q rows recs p ≡ searchOf s q rows recs p₀
     pub few : p .state .left ≤ k
-    pub good : 0 < p .state .left → Good (p .state)
+    pub good : 0 < p .state .left → SearchGood (p .state)
     pub records : p .state .records ≤ length recs
     pub hmax : p .state .hmax ≡ length (p₀ .hits)
     pub same : length (p .hits) ≡ length (p₀ .hits)

@@ -1,5 +1,1 @@
-pub mod Asking
 pub mod Around
-pub mod Within
-pub mod Found
-pub mod Demand

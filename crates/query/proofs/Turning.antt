@@ -17,12 +17,13 @@ use Rattle.rules.specs.Widths.{linesFrom, behind}
 use Rattle.rules.specs.Find.{Expected, firstGlyph, gapGlyph, either, Wanted, Query, illFormed, wellFormed, withWanted, gapOf, mayPart, mayAsk, queryEnds, queryLine, queryLines, query}
 use Rattle.laws_find.specs.Occurs.{noWanted, wantedAt}
 use Rattle.query.specs.Asked.{queryOf, gapNumber, partOf, LinesIn, LinesOf}
-use Rattle.query.specs.Turns.{kindBy, kindOf, expectedOf, endOf, before, Room, Going, Turned}
+use Rattle.query_line.specs.Kinds.{kindBy, kindOf}
+use Rattle.query.specs.Turns.{expectedOf, endOf, glyphsBefore, LineRoom, Going, LineTurned}
 use Rattle.query.specs.declared.QueryAnswer.{QueryAnswer}
 use Rattle.query.specs.declared.QueryAnswer.the-variants.{IllFormed}
-use Rattle.query.specs.declared.Kind.{Kind}
-use Rattle.query.specs.declared.Kind.the-variants.{Glyph, Gap, Wrong}
-use Rattle.query.specs.declared.State.{State}
+use Rattle.query_line.specs.declared.Kind.{Kind}
+use Rattle.query_line.specs.declared.Kind.the-variants.{Glyph, Gap, Wrong}
+use Rattle.query.specs.declared.QueryState.{QueryState}
 use Rattle.query.specs.declared.Flow.{Flow}
 use Rattle.query.specs.declared.Flow.the-variants.{On, Stop}
 use Rattle.laws.proofs.Cases.{on, and-left}
@@ -30,18 +31,18 @@ use Rattle.scan_lex.specs.At.{runEnd}
 use Rattle.scan_lex.proofs.Lines.{line-at, line-from, lines-none, behind-some, drop-take}
 
 -- ---- glyphs before what the lines behind them say
-before-ill : (ws : List Wanted) (at : ℕ) → before ws (illFormed at) ≡ illFormed at
-unfolding before
+before-ill : (ws : List Wanted) (at : ℕ) → glyphsBefore ws (illFormed at) ≡ illFormed at
+unfolding glyphsBefore
 before-ill [] at = refl
 before-ill (w ∷ ws) at = rw (before-ill ws at)
 
-before-well : (ws qs : List Wanted) → before ws (wellFormed qs) ≡ wellFormed (ws ++ qs)
-unfolding before
+before-well : (ws qs : List Wanted) → glyphsBefore ws (wellFormed qs) ≡ wellFormed (ws ++ qs)
+unfolding glyphsBefore
 before-well [] qs = refl
 before-well (w ∷ ws) qs = rw (before-well ws qs)
 
-before-more : (ws : List Wanted) (w : Wanted) (r : Query) → before ws (withWanted (w .gap) (w .name) r) ≡ before (ws ++ w ∷ []) r
-unfolding before
+before-more : (ws : List Wanted) (w : Wanted) (r : Query) → glyphsBefore ws (withWanted (w .gap) (w .name) r) ≡ glyphsBefore (ws ++ w ∷ []) r
+unfolding glyphsBefore
 before-more [] w r = refl
 before-more (v ∷ ws) w r = rw (before-more ws w r)
 
@@ -68,7 +69,7 @@ module _ (s : List ℕ) (n x j : ℕ) where
   kept h = getD-set-other s n j x 0 (λ e. omega arith)
 
 module _ (q : List ℕ) (ws : List Wanted) (p l g : List ℕ) (i : LinesIn q ws p l g) (n a b d : ℕ) (c : length ws ≡ n) (w : Wanted) where
-  held-more : Room n p l g → a + b ≤ length q → partOf q a b ≡ w .name → d ≡ gapNumber (w .gap)
+  held-more : LineRoom n p l g → a + b ≤ length q → partOf q a b ≡ w .name → d ≡ gapNumber (w .gap)
       → LinesIn q (ws ++ w ∷ []) (set p n a) (set l n b) (set g n d)
   held-more v r m k = record {
     inside = λ j h.
@@ -137,7 +138,7 @@ module _ (n due gap at : ℕ) (t : List ℕ) (go : ℕ → Expected → Query) w
   wrong-by (some name) k = rw (glyph-false (mayAsk n name) k)
 
 -- ---- the line at the state's place
-module _ (q : List ℕ) (st : State) (p l g : List ℕ) (G : Going q st p l g) (e : ℕ) (h : st .at < length q) (f : e ≡ runEnd isNotNewline q (st .at)) where
+module _ (q : List ℕ) (st : QueryState) (p l g : List ℕ) (G : Going q st p l g) (e : ℕ) (h : st .at < length q) (f : e ≡ runEnd isNotNewline q (st .at)) where
   abbrev text : List ℕ
   text = take (e - st .at) (drop (st .at) q)
 
@@ -147,7 +148,7 @@ module _ (q : List ℕ) (st : State) (p l g : List ℕ) (G : Going q st p l g) (
   abbrev says : Query
   says = queryLine (st .glyphs) (expectedOf (st .due) (st .gap)) (st .at) text goes (behind (bytes "glyph=") text)
 
-  whole : query q ≡ before (G .glyphs) (if ltb e (length q) then says else illFormed (st .at))
+  whole : query q ≡ glyphsBefore (G .glyphs) (if ltb e (length q) then says else illFormed (st .at))
   unfolding queryLines
   whole = G .rest ∙ rw (line-at q (st .at) e h f)
 
@@ -158,7 +159,7 @@ module _ (q : List ℕ) (st : State) (p l g : List ℕ) (G : Going q st p l g) (
   stop-unended i = whole ∙ rw (le-ltb e (length q) i, before-ill (G .glyphs) (st .at))
 
   module _ (i : e < length q) (k : Kind) (m : k ≡ kindOf (st .glyphs) (st .due) text) where
-    ended-line : query q ≡ before (G .glyphs) says
+    ended-line : query q ≡ glyphsBefore (G .glyphs) says
     ended-line = whole ∙ rw (lt-ltb e (length q) i)
 
     kind-by : (j : Kind) → k ≡ j → kindBy (st .glyphs) (st .due) text (behind (bytes "glyph=") text) ≡ j
@@ -193,7 +194,7 @@ module _ (q : List ℕ) (st : State) (p l g : List ℕ) (G : Going q st p l g) (
       pub glyph-long : st .at + 6 ≤ e
       glyph-long = omega (arith, glyph-says .1, text-length)
 
-      pub glyph-room : Room (st .glyphs) p l g
+      pub glyph-room : LineRoom (st .glyphs) p l g
       glyph-room = omega (arith, glyph-says .2, G .places-room, G .lens-room, G .gaps-room)
 
       pub glyph-fits : Fits w64 (st .glyphs + 1)
@@ -226,7 +227,7 @@ module _ (q : List ℕ) (st : State) (p l g : List ℕ) (G : Going q st p l g) (
 -- ---- the loop over the lines
 pub going-start : (q p l g : List ℕ) → length p ≡ 64 → length l ≡ 64 → length g ≡ 64 → length q ≤ 8192
     → Going q (record { at = 0; due = 0; gap = 0; glyphs = 0 }) p l g
-unfolding query before
+unfolding query glyphsBefore
 going-start q p l g a b c d = record {
   glyphs = [];
   rest = refl;
@@ -246,8 +247,8 @@ Answered q r p l g = (r ≡ queryOf (query q)) × LinesOf q p l g (query q)
 answered-ill : (q p l g : List ℕ) (at : ℕ) → query q ≡ illFormed at → Answered q (IllFormed at) p l g
 answered-ill q p l g at e = rw e (refl, tt)
 
-module _ (q : List ℕ) (st : State) (r : Flow) (p l g : List ℕ) (t : Turned q st r p l g) where
-  module _ (u : State) (e : r ≡ On u) where
+module _ (q : List ℕ) (st : QueryState) (r : Flow) (p l g : List ℕ) (t : LineTurned q st r p l g) where
+  module _ (u : QueryState) (e : r ≡ On u) where
     pub going-on : Going q u p l g
     going-on = (rw e at t) .0
 
@@ -261,8 +262,8 @@ module _ (q : List ℕ) (st : State) (r : Flow) (p l g : List ℕ) (t : Turned q
     pub stop-rows : LinesOf q p l g (query q)
     stop-rows = answered-ill q p l g (st .at) (rw e at t) .1
 
-module _ (q : List ℕ) (st : State) (p l g : List ℕ) (G : Going q st p l g) where
-  ended-by : (x : Expected) → query q ≡ before (G .glyphs) (queryEnds x) → Answered q (endOf (st .glyphs) x) p l g
+module _ (q : List ℕ) (st : QueryState) (p l g : List ℕ) (G : Going q st p l g) where
+  ended-by : (x : Expected) → query q ≡ glyphsBefore (G .glyphs) (queryEnds x) → Answered q (endOf (st .glyphs) x) p l g
   ended-by firstGlyph e = answered-ill q p l g 0 (e ∙ before-ill (G .glyphs) 0)
   ended-by (gapGlyph at) e = answered-ill q p l g at (e ∙ before-ill (G .glyphs) at)
   ended-by either e =

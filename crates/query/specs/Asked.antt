@@ -1,9 +1,9 @@
 -- The query as the code holds it: its answer, and its glyph lines by number.
 use Prim.Native.Nat.{ℕ, _+_, _<_, _≤_}
-use mathlib.Core.List.{List, [], _∷_}
+use mathlib.Core.List.{List}
 use mathlib.Core.Path.{_≡_}
 use lib.ListN.{length, take, drop, getD}
-use Rattle.rules.specs.Find.{Gap, anyGap, noGap, someGap, Wanted, Query, illFormed, wellFormed, query}
+use Rattle.rules.specs.Find.{Gap, anyGap, noGap, someGap, Wanted, Query, illFormed, wellFormed}
 use Rattle.laws_find.specs.Occurs.{wantedAt}
 use Rattle.query.specs.declared.QueryAnswer.{QueryAnswer}
 use Rattle.query.specs.declared.QueryAnswer.the-variants as Q

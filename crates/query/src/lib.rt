@@ -1,11 +1,11 @@
 // The query, judged, and its glyph lines by number (document 01, "Finding").
+use query_line::Kind;
 ghost use mathlib.Core.Path.{_≡_};
 ghost use Prim.Native.Nat.{_+_, _-_, _≤_, _<_};
 ghost use lib.ListN.{length, set};
 ghost use Rattle.rules.specs.Find.{query};
 ghost use Rattle.query.specs.Asked.{queryOf, LinesOf};
-ghost use Rattle.query.specs.Parts.{partIn};
-ghost use Rattle.query.specs.Turns.{glyphKind, gapKind, kindOf, expectedOf, endOf, Room, Going, Turned};
+ghost use Rattle.query.specs.Turns.{expectedOf, endOf, LineRoom, Going, LineTurned};
 
 // The offset of refusal 12, or how many glyphs are asked for.
 pub enum QueryAnswer {
@@ -13,16 +13,9 @@ pub enum QueryAnswer {
     WellFormed { glyphs: usize },
 }
 
-// What a line of the query is.
-enum Kind {
-    Glyph,
-    Gap,
-    Wrong,
-}
-
 // Between two lines: the next line's place; what a glyph line there asks of the gap mark (0 nothing, it is the first; 1 that it is
 // not set; 2 that it is, a gap line was read); that gap line's place; and how many glyph lines were read.
-struct State {
+struct QueryState {
     at: usize,
     due: u32,
     gap: usize,
@@ -31,60 +24,8 @@ struct State {
 
 // The state behind the line, or the line is wrong.
 enum Flow {
-    On(State),
+    On(QueryState),
     Stop,
-}
-
-// The caller's part of s at a place with a length; the empty part where it does not lie in s.
-pub fn part<'a>(s: &'a [u8], place: usize, len: usize) -> &'a [u8]
-    ensures { λ r. ⌜ now r ≡ partIn (now (s .entry)) place len ⌝ }
-{
-    if s.len() < place {
-        return &s[..0];
-    }
-    if s.len() - place < len {
-        return &s[..0];
-    }
-    let end = place + len;
-    &s[place..end]
-}
-
-// A line with the key `glyph=` and this name.
-fn glyph_kind(name: &[u8], glyphs: usize) -> Kind
-    ensures { λ r. ⌜ r ≡ glyphKind glyphs (now (name .entry)) ⌝ }
-{
-    if glyphs < 64 {
-        if scan_lex::is_string(name) {
-            return Kind::Glyph;
-        }
-    }
-    Kind::Wrong
-}
-
-// A line without that key.
-fn gap_kind(t: &[u8], due: u32) -> Kind
-    ensures { λ r. ⌜ r ≡ gapKind due (now (t .entry)) ⌝ }
-{
-    if due == 1 {
-        if scan_lex::same_bytes(t, b"gap=any") {
-            return Kind::Gap;
-        }
-    }
-    Kind::Wrong
-}
-
-// What the line with the bytes t is.
-fn kind_of(t: &[u8], due: u32, glyphs: usize) -> Kind
-    ensures { λ r. ⌜ r ≡ kindOf glyphs due (now (t .entry)) ⌝ }
-{
-    if t.len() < 6 {
-        return gap_kind(t, due);
-    }
-    if scan_lex::same_bytes(b"glyph=", &t[0..6]) {
-        glyph_kind(&t[6..], glyphs)
-    } else {
-        gap_kind(t, due)
-    }
 }
 
 // Puts a glyph line into the rows.
@@ -97,7 +38,7 @@ fn put(
     len: u32,
     gap: u32,
 )
-    requires { ⌜ Room n (now places) (now lens) (now gaps) ⌝ }
+    requires { ⌜ LineRoom n (now places) (now lens) (now gaps) ⌝ }
     ensures { λ _. ⌜ now (places .exit) ≡ set (now (places .entry)) n place ⌝ }
     ensures { λ _. ⌜ now (lens .exit) ≡ set (now (lens .entry)) n len ⌝ }
     ensures { λ _. ⌜ now (gaps .exit) ≡ set (now (gaps .entry)) n gap ⌝ }
@@ -108,9 +49,9 @@ fn put(
 }
 
 // Reads one line.
-fn turn(q: &[u8], places: &mut [u32], lens: &mut [u32], gaps: &mut [u32], st: State) -> Flow
+fn turn(q: &[u8], places: &mut [u32], lens: &mut [u32], gaps: &mut [u32], st: QueryState) -> Flow
     requires { ⌜ Going (now q) st (now places) (now lens) (now gaps) × (st .at < length (now q)) ⌝ }
-    ensures { λ r. ⌜ Turned (now (q .entry)) st r (now (places .exit)) (now (lens .exit)) (now (gaps .exit)) ⌝ }
+    ensures { λ r. ⌜ LineTurned (now (q .entry)) st r (now (places .exit)) (now (lens .exit)) (now (gaps .exit)) ⌝ }
 {
     let at = st.at;
     let n = st.glyphs;
@@ -118,7 +59,7 @@ fn turn(q: &[u8], places: &mut [u32], lens: &mut [u32], gaps: &mut [u32], st: St
     if q.len() <= end {
         return Flow::Stop;
     }
-    match kind_of(&q[at..end], st.due, n) {
+    match query_line::kind_of(&q[at..end], st.due, n) {
         Kind::Glyph => {
             let place = at + 6;
             put(
@@ -130,14 +71,14 @@ fn turn(q: &[u8], places: &mut [u32], lens: &mut [u32], gaps: &mut [u32], st: St
                 (end - place) as u32,
                 st.due,
             );
-            Flow::On(State {
+            Flow::On(QueryState {
                 at: end + 1,
                 due: 1,
                 gap: 0,
                 glyphs: n + 1,
             })
         }
-        Kind::Gap => Flow::On(State {
+        Kind::Gap => Flow::On(QueryState {
             at: end + 1,
             due: 2,
             gap: at,
@@ -148,7 +89,7 @@ fn turn(q: &[u8], places: &mut [u32], lens: &mut [u32], gaps: &mut [u32], st: St
 }
 
 // What the end of the query says.
-fn ended(st: State) -> QueryAnswer
+fn ended(st: QueryState) -> QueryAnswer
     ensures { λ r. ⌜ r ≡ endOf (st .glyphs) (expectedOf (st .due) (st .gap)) ⌝ }
 {
     let due = st.due;
@@ -165,7 +106,7 @@ pub fn load(q: &[u8], places: &mut [u32], lens: &mut [u32], gaps: &mut [u32]) ->
     requires { ⌜ (length (now places) ≡ 64) × (length (now lens) ≡ 64) × (length (now gaps) ≡ 64) × (length (now q) ≤ 8192) ⌝ }
     ensures { λ r. ⌜ (r ≡ queryOf (query (now (q .entry)))) × LinesOf (now (q .entry)) (now (places .exit)) (now (lens .exit)) (now (gaps .exit)) (query (now (q .entry))) ⌝ }
 {
-    let mut st = State {
+    let mut st = QueryState {
         at: 0,
         due: 0,
         gap: 0,

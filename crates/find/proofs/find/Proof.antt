@@ -51,10 +51,12 @@ use Rattle.read_model.specs.Passes.{ReadPass, readPassOf}
 use Rattle.read_turn.specs.Ready.{findIn, Scratch}
 use Rattle.read_pass.specs.Ready.{PassReady}
 use Rattle.read_setup.specs.Setup.{Unmounted}
-use Rattle.find_search.specs.declared.Progress.{Progress}
+use Rattle.find_compare.specs.declared.Progress.{Progress}
 use Rattle.find_search.specs.Search.{Looked, searchOf, SearchReady}
-use Rattle.find_setup.specs.declared.Asked.{Asked}
-use Rattle.find_setup.specs.Setup.{AsksFor, Begun, tooMany, nextOf, progressOf, findAnswerOf}
+use Rattle.find_ask.specs.declared.Asked.{Asked}
+use Rattle.find_ask.specs.Ask.{AsksFor}
+use Rattle.find_room.specs.Room.{CountReady, tooMany}
+use Rattle.find_setup.specs.Setup.{Begun, findNextOf, FewRecords, progressOf, findAnswerOf}
 use Rattle.rules.proofs.Record as TG
 use Rattle.rules.proofs.Entry as TE
 use Rattle.rules.proofs.Entry.Laws as TE′
@@ -62,21 +64,21 @@ use Rattle.rules.proofs.Finding as TF
 use Rattle.rules.proofs.Finding.Laws as TF′
 use Rattle.read_model.proofs.State as TS
 use Rattle.read_model.proofs.State.Laws as TS′
-use Rattle.find_search.proofs.Progress as TP
-use Rattle.find_search.proofs.Progress.Laws as TP′
-use Rattle.find_setup.proofs.Asked as TK
-use Rattle.find_setup.proofs.Asked.Laws as TK′
+use Rattle.find_compare.proofs.Progress as TP
+use Rattle.find_compare.proofs.Progress.Laws as TP′
+use Rattle.find_ask.proofs.Asked as TK
+use Rattle.find_ask.proofs.Asked.Laws as TK′
 use Rattle.rowkit.proofs.Rows.{refAt, asks, LentAgain, SharedAgain, shares-again, shared-back}
 use Rattle.rowkit.proofs.Lends.{Goes, Comes, Left, lends-to}
 use Rattle.rowkit.proofs.Local.{local-out, local-in, big-lit}
 use Rattle.rowkit.proofs.Locals.{row-out, row-in, Goes-row, Comes-row, Left-row, lends-row}
-use Rattle.read.proofs.Twice.{passFrom}
-use Rattle.find_setup.proofs.Found.{row-size, start-sound, left-scratch, next-sound, search-sound, finds-as}
+use Rattle.read_twice.proofs.Twice.{passFrom}
+use Rattle.find_twice.proofs.Found.{row-size, start-sound, left-scratch, count-sound, next-sound, few-sound, search-sound, finds-as}
 use Rattle.find.proofs.Shares.{RowShared, row-shared, row-unshared}
-use Rattle.read.proofs.room as room-fn
-use Rattle.read.proofs.room.Symbol as room-def
-use Rattle.read.proofs.room.Symbol.{name as #read·room}
-use Rattle.read.proofs.room.Met as room-thm
+use Rattle.read_scratch.proofs.room as room-fn
+use Rattle.read_scratch.proofs.room.Symbol as room-def
+use Rattle.read_scratch.proofs.room.Symbol.{name as #read-scratch·room}
+use Rattle.read_scratch.proofs.room.Met as room-thm
 use Rattle.find.proofs.query_room as query-room-fn
 use Rattle.find.proofs.query_room.Symbol as query-room-def
 use Rattle.find.proofs.query_room.Symbol.{name as #find·query-room}
@@ -85,10 +87,10 @@ use Rattle.find.proofs.no_entries as no-entries-fn
 use Rattle.find.proofs.no_entries.Symbol as no-entries-def
 use Rattle.find.proofs.no_entries.Symbol.{name as #find·no-entries}
 use Rattle.find.proofs.no_entries.Met as no-entries-thm
-use Rattle.find_setup.proofs.ask as ask-fn
-use Rattle.find_setup.proofs.ask.Symbol as ask-def
-use Rattle.find_setup.proofs.ask.Symbol.{name as #find-setup·ask}
-use Rattle.find_setup.proofs.ask.Met as ask-thm
+use Rattle.find_ask.proofs.ask as ask-fn
+use Rattle.find_ask.proofs.ask.Symbol as ask-def
+use Rattle.find_ask.proofs.ask.Symbol.{name as #find-ask·ask}
+use Rattle.find_ask.proofs.ask.Met as ask-thm
 use Rattle.find_setup.proofs.start as start-fn
 use Rattle.find_setup.proofs.start.Symbol as start-def
 use Rattle.find_setup.proofs.start.Symbol.{name as #find-setup·start}
@@ -97,10 +99,10 @@ use Rattle.read_pass.proofs.pass as pass-fn
 use Rattle.read_pass.proofs.pass.Symbol as pass-def
 use Rattle.read_pass.proofs.pass.Symbol.{name as #read-pass·pass}
 use Rattle.read_pass.proofs.pass.Met as pass-thm
-use Rattle.find_setup.proofs.too_many as too-many-fn
-use Rattle.find_setup.proofs.too_many.Symbol as too-many-def
-use Rattle.find_setup.proofs.too_many.Symbol.{name as #find-setup·too-many}
-use Rattle.find_setup.proofs.too_many.Met as too-many-thm
+use Rattle.find_room.proofs.too_many as too-many-fn
+use Rattle.find_room.proofs.too_many.Symbol as too-many-def
+use Rattle.find_room.proofs.too_many.Symbol.{name as #find-room·too-many}
+use Rattle.find_room.proofs.too_many.Met as too-many-thm
 use Rattle.find_setup.proofs.again as again-fn
 use Rattle.find_setup.proofs.again.Symbol as again-def
 use Rattle.find_setup.proofs.again.Symbol.{name as #find-setup·again}
@@ -374,9 +376,12 @@ module _ {M : Type 1} (𝓤 : URA M) (H : Heap 𝓤) (A : Atoms 𝓤) (W : Given
         abbrev ended : ReadPass
         ended = readPassOf (findIn ls (st .fonts) xs) ss (passFrom st xs gs zs)
 
+        abbrev passedTo : Val → List Record → List ℕ → List Entry → Type 0
+        passedTo u l ws es = (r : State) × (Is TS.the-row r (u ∷ []) × ((length l ≡ length gs) × (_≡_ {A = ReadPass} (passFrom r ws l es) ended)))
+
         -- the result is some state r, at the machine value u, with the rows as the definition has them
         abbrev passed : Val → List Record → Type 0
-        passed u l = (r : State) × (Is TS.the-row r (u ∷ []) × ((length l ≡ length gs) × (_≡_ {A = ReadPass} (passFrom r (ended .scratch) l (ended .entries)) ended)))
+        passed u l = passedTo u l (ended .scratch) (ended .entries)
 
         module _ (ν₁ : ℕ) (δ₁ : GName) (ν₂ : ℕ) (δ₂ : GName) where
           abbrev Es : Fml
@@ -424,7 +429,7 @@ module _ {M : Type 1} (𝓤 : URA M) (H : Heap 𝓤) (A : Atoms 𝓤) (W : Given
             → PassReady (length ss) xs (length gs) (length zs) st → Is TS.the-row st (stv st ∷ []) → Room TG.the-row (length gs) → gv ≡ sliceVal (b₃, o₃) (length gs) → length zs ≡ 1
             → ((ν₁ : ℕ) (δ₁ : GName) (ν₂ : ℕ) (δ₂ : GName) (ν : ℕ) (δ : GName) → Opds J W (raw (Passes 𝓤 H A mem run .pre (to-pass ν₁ δ₁ ν₂ δ₂ ν δ)) ∷ ‵ (LentAgain TG.the-row κ₃ (ν ∷ []) q₃ γ₃ b₃ o₃ δ gs) ∷ ‵ Names ∷ ‵ Str
             ∷ ‵ (flent (ν₁ ∷ []) (Held TE.the-row (length zs) le 0 δ₁)) ∷ ‵ (flent (ν₂ ∷ []) (Held u32 (length xs) lw 0 δ₂)) ∷ ‵ (row u32 fullShare ts lr 0) ∷ ‵ (Hits hs) ∷ ‵ (flft κ₄ q₄) ∷ ‵ Query ∷ ‵ (flft κ₂ q₂) ∷ Γ) E vs (gv ∷ ev le ∷ wsv lw ∷ sv ∷ lv ∷ stv st ∷ []))
-            → ((u : Val) (gs′ : List Record) → length (ended .scratch) ≡ length xs → length (ended .entries) ≡ length zs → passed u gs′ → Seq J W (Head (ended .scratch) ts (ended .entries) gs′ hs Γ) (lands C Λ E d u rest p))
+            → ((u : Val) (gs′ : List Record) (xs′ : List ℕ) (zs′ : List Entry) → length xs′ ≡ length xs → length zs′ ≡ length zs → passedTo u gs′ xs′ zs′ → Seq J W (Head xs′ ts zs′ gs′ hs Γ) (lands C Λ E d u rest p))
             → Seq J W (Head xs ts zs gs hs Γ) (runs C Λ E (seq (call g vs d) rest) p)
         runs-pass t fm known sound is g-room gv-is one os k =
             row-out 𝓤 H A W u32 lw 0 xs (wsv lw) t tt (named 2) (roomy u32 8768 (lit< tt, lit< tt) xs (sound .scratch .size)) (slice-is 8768 lw (length xs) (sound .scratch .size)) (λ ν₂ δ₂. move t (4 ∷ []) $
@@ -439,7 +444,7 @@ module _ {M : Type 1} (𝓤 : URA M) (H : Heap 𝓤) (A : Atoms 𝓤) (W : Given
             move t (2 ∷ []) $ use1 W (((‵ (flft (ν₁ ∷ []) fullShare) ⊛ ‵ (finally TE.the-row δ₁ (ended .entries))) ⊛ (‵ (flft (ν₂ ∷ []) fullShare) ⊛ ‵ (finally u32 δ₂ (ended .scratch)))) ⊛ (‵ (flft κ₀ q₀) ⊛ ‵ (flft κ₁ q₁) ⊛ ‵ ftrue)) (id⊢ 𝓤 _) $ split t $ split t $ split t $
             move t (0 ∷ 1 ∷ 8 ∷ []) $ row-in 𝓤 H A W TE.the-row le 0 zs (ev le) t tt ν₁ δ₁ (ended .entries) (λ el.
             move t (1 ∷ []) $ split t $ move t (0 ∷ 1 ∷ 8 ∷ []) $ row-in 𝓤 H A W u32 lw 0 xs (wsv lw) t tt ν₂ δ₂ (ended .scratch) (λ wl.
-            move t (2 ∷ []) $ split t $ move t (1 ∷ []) $ split t $ move t (1 ∷ []) $ drop t $ move t (2 ∷ 8 ∷ 3 ∷ 4 ∷ 5 ∷ 9 ∷ 10 ∷ 7 ∷ 1 ∷ 6 ∷ 0 ∷ 11 ∷ 12 ∷ []) $ k u gs′ wl el e)))))
+            move t (2 ∷ []) $ split t $ move t (1 ∷ []) $ split t $ move t (1 ∷ []) $ drop t $ move t (2 ∷ 8 ∷ 3 ∷ 4 ∷ 5 ∷ 9 ∷ 10 ∷ 7 ∷ 1 ∷ 6 ∷ 0 ∷ 11 ∷ 12 ∷ []) $ k u gs′ (ended .scratch) (ended .entries) wl el e)))))
 
         -- `too_many`
         abbrev Rs : ℕ → GName → Fml
@@ -448,27 +453,27 @@ module _ {M : Type 1} (𝓤 : URA M) (H : Heap 𝓤) (A : Atoms 𝓤) (W : Given
         abbrev to-too : ℕ → GName → TooManys 𝓤 H A mem run .Ghost
         to-too ν δ = (((ν ∷ [], (κ₀, (κ₂, tt))), (fullShare, (q₀, (q₂, tt))), tt, (refAt lr 0 δ ts, (refAt b₀ o₀ γ₀ ss, (refAt b₂ o₂ γ₂ qs, (st, (length hs, tt))))), (tv lr ∷ [], (sv ∷ [], (qv ∷ [], (stv st ∷ [], (vint w64 (length hs) ∷ [], tt)))))), tt)
 
-        goes-too : length ts ≡ 193 → length hs < 2 ^ 64 → (ν : ℕ) (δ : GName)
+        goes-too : CountReady ss ts st → length hs < 2 ^ 64 → (ν : ℕ) (δ : GName)
             → ent 𝓤 (sep 𝓤 (sep 𝓤 (A .lft (ν ∷ []) fullShare) (sep 𝓤 (A .lft κ₀ q₀) (A .lft κ₂ q₂))) (sep 𝓤 (sep 𝓤 (sem 𝓤 H A (Rs ν δ)) (sep 𝓤 (sem 𝓤 H A Str) (sem 𝓤 H A Query))) (sem 𝓤 H A (TS.the-row .own st (stv st ∷ []))))) (TooManys 𝓤 H A mem run .pre (to-too ν δ))
-        goes-too size h-fits ν δ =
-            qed W ((‵ (flft (ν ∷ []) fullShare) ⊛ (‵ (flft κ₀ q₀) ⊛ ‵ (flft κ₂ q₂))) ∷ (‵ (Rs ν δ) ⊛ (‵ Str ⊛ ‵ Query)) ∷ ‵ (TS.the-row .own st (stv st ∷ [])) ∷ []) ∵ says ! size $
+        goes-too ready h-fits ν δ =
+            qed W ((‵ (flft (ν ∷ []) fullShare) ⊛ (‵ (flft κ₀ q₀) ⊛ ‵ (flft κ₂ q₂))) ∷ (‵ (Rs ν δ) ⊛ (‵ Str ⊛ ‵ Query)) ∷ ‵ (TS.the-row .own st (stv st ∷ [])) ∷ []) ∵ says ! ready $
             split ! $ move ! (1 ∷ []) $ split ! $ nothing ! $ move ! (2 ∷ 0 ∷ []) $ join ! $ move ! (1 ∷ 0 ∷ []) $ join ! $ move ! (1 ∷ 0 ∷ []) $ join ! $ frame ! $
             split ! $ move ! (1 ∷ []) $ split ! $ nothing ! $ owned ! usize (Is usize) (uint-makes 𝓤 H A W w64) (length hs) _ (refl, h-fits) $ fjoin ! $
             move ! (4 ∷ 0 ∷ []) $ fjoin ! $ move ! (2 ∷ 0 ∷ []) $ fjoin ! $ move ! (1 ∷ 0 ∷ []) $ fjoin ! $ move ! (1 ∷ 0 ∷ []) $ fjoin ! $ done !
 
         -- beside 12 entries
-        runs-too : {J : Type 0} {Γ : List (Item 𝓤)} {C : Calls 𝓤 H} {Λ : Loops 𝓤 H} {E : Env 𝓤 H} {p : After 𝓤 H} {g : Name} {vs : List Operand} {d : Place} {rest : Body} → J → FmC 𝓤 H (W .laws) C → Triple 𝓤 (C g) (TooManys 𝓤 H A mem run) → length ts ≡ 193 → Is TS.the-row st (stv st ∷ []) → length hs < 2 ^ 64
+        runs-too : {J : Type 0} {Γ : List (Item 𝓤)} {C : Calls 𝓤 H} {Λ : Loops 𝓤 H} {E : Env 𝓤 H} {p : After 𝓤 H} {g : Name} {vs : List Operand} {d : Place} {rest : Body} → J → FmC 𝓤 H (W .laws) C → Triple 𝓤 (C g) (TooManys 𝓤 H A mem run) → CountReady ss ts st → Is TS.the-row st (stv st ∷ []) → length hs < 2 ^ 64
             → ((ν : ℕ) (δ : GName) → Opds J W (raw (TooManys 𝓤 H A mem run .pre (to-too ν δ)) ∷ ‵ Query ∷ ‵ Str ∷ ‵ (RowShared u32 lr 0 ts ν) ∷ ‵ (row u32 fullShare xs lw 0) ∷ ‵ (row TE.the-row fullShare zs le 0)
             ∷ ‵ (Records gs) ∷ ‵ (flft κ₃ q₃) ∷ ‵ (Hits hs) ∷ ‵ (flft κ₄ q₄) ∷ ‵ Names ∷ ‵ (flft κ₁ q₁) ∷ Γ) E vs (tv lr ∷ sv ∷ qv ∷ stv st ∷ vint w64 (length hs) ∷ []))
             → ((u : Val) (r : Bool) → Is bool r (u ∷ []) → r ≡ tooMany ts ss qs st (length hs) → Seq J W (Head xs ts zs gs hs Γ) (lands C Λ E d u rest p))
             → Seq J W (Head xs ts zs gs hs Γ) (runs C Λ E (seq (call g vs d) rest) p)
-        runs-too t fm known size is h-fits os k =
-            move t (1 ∷ []) $ row-shared u32 lr 0 ts 𝓤 H A W t tt (named 0) (tv lr) (roomy u32 193 (lit< tt, lit< tt) ts size) (slice-is 193 lr (length ts) size) (λ ν δ.
+        runs-too t fm known ready is h-fits os k =
+            move t (1 ∷ []) $ row-shared u32 lr 0 ts 𝓤 H A W t tt (named 0) (tv lr) (roomy u32 193 (lit< tt, lit< tt) ts (ready .size)) (slice-is 193 lr (length ts) (ready .size)) (λ ν δ.
             -- [rows, shared; ν's token; the lender's part; ws; none; the parameters; Γ]
             move t (9 ∷ []) $ use1 W (‵ Str ⊛ ‵ Str) (shr-slice-copy 𝓤 H A W (named 0) κ₀ u8 .twice (refAt b₀ o₀ γ₀ ss) (sv ∷ [])) $ split t $
             move t (14 ∷ []) $ use1 W (‵ Query ⊛ ‵ Query) (shr-slice-copy 𝓤 H A W (named 2) κ₂ u8 .twice (refAt b₂ o₂ γ₂ qs) (qv ∷ [])) $ split t $
             move t (2 ∷ 0 ∷ []) $ join t $ move t (3 ∷ 0 ∷ []) $ join t $ move t (11 ∷ 14 ∷ []) $ join t $ move t (4 ∷ 0 ∷ []) $ join t $ owned t TS.the-row (Is TS.the-row) (LL.makes TS.the-type TS′.the-plain 𝓤 H A) st _ is $ move t (1 ∷ 2 ∷ 0 ∷ []) $
-            use3 W (raw (TooManys 𝓤 H A mem run .pre (to-too ν δ))) (goes-too size h-fits ν δ) $
+            use3 W (raw (TooManys 𝓤 H A mem run .pre (to-too ν δ))) (goes-too ready h-fits ν δ) $
             asks 𝓤 H A W too-many-fn.ended (too-many-fn.clauses 𝓤 H A mem run) t fm known (to-too ν δ) (λ r. r ≡ tooMany ts ss qs st (length hs)) (λ r ws. id⊢ 𝓤 _) (os ν δ) (λ u r e.
             peeks t bool (Is bool) (shows 𝓤 H A bool) r (u ∷ []) (λ is-r. drop t $
             use1 W (‵ (flft (ν ∷ []) fullShare) ⊛ ‵ (flft κ₀ q₀) ⊛ ‵ (flft κ₂ q₂) ⊛ ‵ ftrue) (id⊢ 𝓤 _) $ split t $ move t (1 ∷ []) $ split t $ move t (1 ∷ []) $ split t $ move t (1 ∷ []) $ drop t $
@@ -486,7 +491,7 @@ module _ {M : Type 1} (𝓤 : URA M) (H : Heap 𝓤) (A : Atoms 𝓤) (W : Given
           again-back u = sem 𝓤 H A ftrue
 
           abbrev begun : Val → List ℕ → Type 0
-          begun u ws = (r : State) × (Is TS.the-row r (u ∷ []) × ((r ≡ nextOf st (length ss) (length ys) too) × Unmounted xs ws))
+          begun u ws = (r : State) × (Is TS.the-row r (u ∷ []) × ((r ≡ findNextOf st (length ss) (length ys) too) × Unmounted xs ws))
 
           goes-again : Scratch xs → length ss < 2 ^ 64 → length ys < 2 ^ 64 → Goes-row 𝓤 H A W u32 lw 0 xs (wsv lw) (Agains 𝓤 H A mem run) to-again again-asks again-back begun
           goes-again scratch s-fits y-fits ν δ =
@@ -498,8 +503,8 @@ module _ {M : Type 1} (𝓤 : URA M) (H : Heap 𝓤) (A : Atoms 𝓤) (W : Given
           comes-again ν δ u =
               qed W (raw (Agains 𝓤 H A mem run .post (to-again ν δ) u) ∷ []) ∵ updating ! $
               use1 W (later (some (λ (r : State). ((‵ (flft (ν ∷ []) fullShare) ⊛ ‵ ftrue) ⊛ ‵ (TS.the-row .own r (u ∷ []))) ⊛ raw (ensured 𝓤 H A again-fn.ended (again-fn.clauses 𝓤 H A mem run) (to-again ν δ .0 .0) (to-again ν δ .0 .3) tt r)))) (id⊢ 𝓤 _) $ await ! tt $ pick ! (λ r.
-              split ! $ move ! (1 ∷ []) $ use1 W (some (λ (z : Lasts again-fn.ended (to-again ν δ .0 .0) (to-again ν δ .0 .3)). ‵ (lasts again-fn.ended (to-again ν δ .0 .0) (to-again ν δ .0 .3) z) ⊛ raw (fact 𝓤 ((r ≡ nextOf st (length ss) (length ys) too) × Unmounted xs (z .0))))) (id⊢ 𝓤 _) $ pick ! (λ z.
-              split ! $ move ! (1 ∷ []) $ heard ! ((r ≡ nextOf st (length ss) (length ys) too) × Unmounted xs (z .0)) (λ e. fsplit ! $ fsplit ! $ move ! (1 ∷ []) $ drop ! $ move ! (2 ∷ []) $ split ! $ move ! (1 ∷ []) $
+              split ! $ move ! (1 ∷ []) $ use1 W (some (λ (z : Lasts again-fn.ended (to-again ν δ .0 .0) (to-again ν δ .0 .3)). ‵ (lasts again-fn.ended (to-again ν δ .0 .0) (to-again ν δ .0 .3) z) ⊛ raw (fact 𝓤 ((r ≡ findNextOf st (length ss) (length ys) too) × Unmounted xs (z .0))))) (id⊢ 𝓤 _) $ pick ! (λ z.
+              split ! $ move ! (1 ∷ []) $ heard ! ((r ≡ findNextOf st (length ss) (length ys) too) × Unmounted xs (z .0)) (λ e. fsplit ! $ fsplit ! $ move ! (1 ∷ []) $ drop ! $ move ! (2 ∷ []) $ split ! $ move ! (1 ∷ []) $
               peeks ! TS.the-row (Is TS.the-row) (shows 𝓤 H A TS.the-row) r (u ∷ []) (λ is. drop ! $ split ! $
               at-once ! $ show ! (Left-row 𝓤 H A W u32 lw 0 xs (wsv lw) (Agains 𝓤 H A mem run) to-again again-asks again-back begun ν δ u) (z .0) $ says ! (r, (is, e)) $ frame ! $ move ! (1 ∷ 0 ∷ []) $ frame ! $ move ! (1 ∷ []) $ drop ! $ done !))))
 
@@ -517,19 +522,19 @@ module _ {M : Type 1} (𝓤 : URA M) (H : Heap 𝓤) (A : Atoms 𝓤) (W : Given
         abbrev to-progress : ℕ → GName → Begins 𝓤 H A mem run .Ghost
         to-progress ν δ = (((ν ∷ [], tt), (fullShare, tt), tt, (st, (refAt lr 0 δ ts, (length hs, tt))), (stv st ∷ [], (tv lr ∷ [], (vint w64 (length hs) ∷ [], tt)))), tt)
 
-        goes-progress : length ts ≡ 193 → length hs < 2 ^ 64 → (ν : ℕ) (δ : GName) → ent 𝓤 (sep 𝓤 (A .lft (ν ∷ []) fullShare) (sep 𝓤 (sem 𝓤 H A (Rs ν δ)) (sem 𝓤 H A (TS.the-row .own st (stv st ∷ []))))) (Begins 𝓤 H A mem run .pre (to-progress ν δ))
-        goes-progress size h-fits ν δ =
-            qed W (‵ (flft (ν ∷ []) fullShare) ∷ ‵ (Rs ν δ) ∷ ‵ (TS.the-row .own st (stv st ∷ [])) ∷ []) ∵ says ! size $ nothing ! $ move ! (1 ∷ 0 ∷ []) $ join ! $ frame ! $
+        goes-progress : (length ts ≡ 193) × FewRecords st → length hs < 2 ^ 64 → (ν : ℕ) (δ : GName) → ent 𝓤 (sep 𝓤 (A .lft (ν ∷ []) fullShare) (sep 𝓤 (sem 𝓤 H A (Rs ν δ)) (sem 𝓤 H A (TS.the-row .own st (stv st ∷ []))))) (Begins 𝓤 H A mem run .pre (to-progress ν δ))
+        goes-progress ready h-fits ν δ =
+            qed W (‵ (flft (ν ∷ []) fullShare) ∷ ‵ (Rs ν δ) ∷ ‵ (TS.the-row .own st (stv st ∷ [])) ∷ []) ∵ says ! ready $ nothing ! $ move ! (1 ∷ 0 ∷ []) $ join ! $ frame ! $
             nothing ! $ owned ! usize (Is usize) (uint-makes 𝓤 H A W w64) (length hs) _ (refl, h-fits) $ fjoin ! $ move ! (1 ∷ 0 ∷ []) $ fjoin ! $ move ! (1 ∷ 0 ∷ []) $ fjoin ! $ done !
 
         -- beside 14 entries
-        runs-progress : {J : Type 0} {Γ : List (Item 𝓤)} {C : Calls 𝓤 H} {Λ : Loops 𝓤 H} {E : Env 𝓤 H} {p : After 𝓤 H} {g : Name} {vs : List Operand} {d : Place} {rest : Body} → J → FmC 𝓤 H (W .laws) C → Triple 𝓤 (C g) (Begins 𝓤 H A mem run) → length ts ≡ 193 → Is TS.the-row st (stv st ∷ []) → length hs < 2 ^ 64
+        runs-progress : {J : Type 0} {Γ : List (Item 𝓤)} {C : Calls 𝓤 H} {Λ : Loops 𝓤 H} {E : Env 𝓤 H} {p : After 𝓤 H} {g : Name} {vs : List Operand} {d : Place} {rest : Body} → J → FmC 𝓤 H (W .laws) C → Triple 𝓤 (C g) (Begins 𝓤 H A mem run) → (length ts ≡ 193) × FewRecords st → Is TS.the-row st (stv st ∷ []) → length hs < 2 ^ 64
             → ((ν : ℕ) (δ : GName) → Opds J W (raw (Begins 𝓤 H A mem run .pre (to-progress ν δ)) ∷ ‵ (RowShared u32 lr 0 ts ν) ∷ ‵ (row u32 fullShare xs lw 0) ∷ ‵ (row TE.the-row fullShare zs le 0) ∷ Params gs hs Γ) E vs (stv st ∷ tv lr ∷ vint w64 (length hs) ∷ []))
             → ((u : Val) (r : Progress) → Is TP.the-row r (u ∷ []) → r ≡ progressOf st ts (length hs) → Seq J W (Head xs ts zs gs hs Γ) (lands C Λ E d u rest p))
             → Seq J W (Head xs ts zs gs hs Γ) (runs C Λ E (seq (call g vs d) rest) p)
-        runs-progress t fm known size is h-fits os k =
-            move t (1 ∷ []) $ row-shared u32 lr 0 ts 𝓤 H A W t tt (named 0) (tv lr) (roomy u32 193 (lit< tt, lit< tt) ts size) (slice-is 193 lr (length ts) size) (λ ν δ.
-            owned t TS.the-row (Is TS.the-row) (LL.makes TS.the-type TS′.the-plain 𝓤 H A) st _ is $ move t (2 ∷ 1 ∷ 0 ∷ []) $ use3 W (raw (Begins 𝓤 H A mem run .pre (to-progress ν δ))) (goes-progress size h-fits ν δ) $
+        runs-progress t fm known ready is h-fits os k =
+            move t (1 ∷ []) $ row-shared u32 lr 0 ts 𝓤 H A W t tt (named 0) (tv lr) (roomy u32 193 (lit< tt, lit< tt) ts (ready .0)) (slice-is 193 lr (length ts) (ready .0)) (λ ν δ.
+            owned t TS.the-row (Is TS.the-row) (LL.makes TS.the-type TS′.the-plain 𝓤 H A) st _ is $ move t (2 ∷ 1 ∷ 0 ∷ []) $ use3 W (raw (Begins 𝓤 H A mem run .pre (to-progress ν δ))) (goes-progress ready h-fits ν δ) $
             asks 𝓤 H A W progress-fn.ended (progress-fn.clauses 𝓤 H A mem run) t fm known (to-progress ν δ) (λ r. r ≡ progressOf st ts (length hs)) (λ r ws. id⊢ 𝓤 _) (os ν δ) (λ u r e.
             peeks t TP.the-row (Is TP.the-row) (shows 𝓤 H A TP.the-row) r (u ∷ []) (λ is-r. drop t $ use1 W (‵ (flft (ν ∷ []) fullShare)) (fst∗ 𝓤 _ (emp 𝓤)) $
             row-unshared u32 lr 0 ts 𝓤 H A W t tt ν $ move t (1 ∷ 0 ∷ []) $ k u r is-r e)))
@@ -598,7 +603,7 @@ module _ {M : Type 1} (𝓤 : URA M) (H : Heap 𝓤) (A : Atoms 𝓤) (W : Given
             use2 W (later (‵ (Records gs) ⊛ ‵ (flft κ₃ q₃))) (shared-back TG.the-row κ₃ (ν₂ ∷ []) q₃ γ₃ b₃ o₃ 𝓤 H A W (named 3) (named 1) gs (gv ∷ []) g-room (ap (λ (v : Val). v ∷ []) gv-is)) $ await t tt $ split t $
             move t (9 ∷ 2 ∷ 10 ∷ 0 ∷ 1 ∷ 5 ∷ 6 ∷ 8 ∷ 4 ∷ 11 ∷ 12 ∷ 7 ∷ 3 ∷ []) $ k u hs′ e))))
 
-  module _ (𝓣 : Tables 𝓤 H) (known-room : Triple 𝓤 (𝓣 .C #read·room) (Rooms 𝓤 H A mem run)) (known-query-room : Triple 𝓤 (𝓣 .C #find·query-room) (QueryRooms 𝓤 H A mem run)) (known-no-entries : Triple 𝓤 (𝓣 .C #find·no-entries) (Nones 𝓤 H A mem run)) (known-ask : Triple 𝓤 (𝓣 .C #find-setup·ask) (Asks 𝓤 H A mem run)) (known-start : Triple 𝓤 (𝓣 .C #find-setup·start) (Starts 𝓤 H A mem run)) (known-pass : Triple 𝓤 (𝓣 .C #read-pass·pass) (Passes 𝓤 H A mem run)) (known-too-many : Triple 𝓤 (𝓣 .C #find-setup·too-many) (TooManys 𝓤 H A mem run)) (known-again : Triple 𝓤 (𝓣 .C #find-setup·again) (Agains 𝓤 H A mem run)) (known-progress : Triple 𝓤 (𝓣 .C #find-setup·progress) (Begins 𝓤 H A mem run)) (known-search : Triple 𝓤 (𝓣 .C #find-search·search) (Searches 𝓤 H A mem run)) (known-answer : Triple 𝓤 (𝓣 .C #find-setup·answer) (Answers 𝓤 H A mem run))
+  module _ (𝓣 : Tables 𝓤 H) (known-room : Triple 𝓤 (𝓣 .C #read-scratch·room) (Rooms 𝓤 H A mem run)) (known-query-room : Triple 𝓤 (𝓣 .C #find·query-room) (QueryRooms 𝓤 H A mem run)) (known-no-entries : Triple 𝓤 (𝓣 .C #find·no-entries) (Nones 𝓤 H A mem run)) (known-ask : Triple 𝓤 (𝓣 .C #find-ask·ask) (Asks 𝓤 H A mem run)) (known-start : Triple 𝓤 (𝓣 .C #find-setup·start) (Starts 𝓤 H A mem run)) (known-pass : Triple 𝓤 (𝓣 .C #read-pass·pass) (Passes 𝓤 H A mem run)) (known-too-many : Triple 𝓤 (𝓣 .C #find-room·too-many) (TooManys 𝓤 H A mem run)) (known-again : Triple 𝓤 (𝓣 .C #find-setup·again) (Agains 𝓤 H A mem run)) (known-progress : Triple 𝓤 (𝓣 .C #find-setup·progress) (Begins 𝓤 H A mem run)) (known-search : Triple 𝓤 (𝓣 .C #find-search·search) (Searches 𝓤 H A mem run)) (known-answer : Triple 𝓤 (𝓣 .C #find-setup·answer) (Answers 𝓤 H A mem run))
       (s-fits : length ss < 2 ^ 64) (l-fits : length ls < 2 ^ 64) (q-fits : length qs < 2 ^ 64) (g-room : Room TG.the-row (length ys)) (h-room : Room u32 (length hs)) where
     abbrev C : Calls 𝓤 H
     C = 𝓣 .C
@@ -667,14 +672,14 @@ module _ {M : Type 1} (𝓤 : URA M) (H : Heap 𝓤) (A : Atoms 𝓤) (W : Given
         assigns ! (addr ! (from ! (stop !))) (from ! (stop !)) (init ! 55 refl (tt, tt)) $
         assigns ! (agg ! (and-then ! (load ! (from ! (stop !)) (look ! 55 refl)) (and-then ! (big-lit ! (record { fits = lit< tt })) (no-more !)))) (from ! (stop !)) (init ! 53 refl (tt, (tt, (record { fits = lit< tt }, tt)))) $
         runs-pass l₆ l₇ l₈ ws₁ rows₁ zs₀ ys (d₁ .0) ! fm known-pass (start-sound ss ls qs ys zs₀ hs (d₀ .0) rows₁ (d₀ .1 .1) (d₁ .0) ws₁ (d₁ .1 .1) (length ys) (length zs₀)) (told (d₁ .0) _ (d₁ .1 .0)) g-room refl (is₂ .1 .0 .1)
-        (λ ν₁ δ₁ ν₂ δ₂ ν δ. (and-then ! (load ! (from ! (stop !)) (look ! 59 refl)) (and-then ! (load ! (from ! (stop !)) (look ! 55 refl)) (and-then ! (load ! (from ! (stop !)) (look ! 51 refl)) (and-then ! (load ! (from ! (stop !)) (look ! 104 refl)) (and-then ! (load ! (from ! (stop !)) (look ! 102 refl)) (and-then ! (load ! (from ! (stop !)) (look ! 89 refl)) (no-more !)))))))) (λ u₂ gs₁ wl₁ el₁ d₂.
+        (λ ν₁ δ₁ ν₂ δ₂ ν δ. (and-then ! (load ! (from ! (stop !)) (look ! 59 refl)) (and-then ! (load ! (from ! (stop !)) (look ! 55 refl)) (and-then ! (load ! (from ! (stop !)) (look ! 51 refl)) (and-then ! (load ! (from ! (stop !)) (look ! 104 refl)) (and-then ! (load ! (from ! (stop !)) (look ! 102 refl)) (and-then ! (load ! (from ! (stop !)) (look ! 89 refl)) (no-more !)))))))) (λ u₂ gs₁ ws₁′ zs₁ wl₁ el₁ d₂.
         land ! (from ! (stop !)) (init ! 89 refl (LL.lawful TS.the-type TS′.the-laws 𝓤 H A W .typed (d₂ .0) _ (d₂ .1 .0) .0)) $ rewrite ! 89 (λ (x : Val). ‵ (fat fullShare TS′.mir l₁₁ 0 x)) (ap only (LL.tells TS.the-type TS′.the-laws (d₂ .0) _ (d₂ .1 .0))) refl $
         forget ! 53 refl $ forget ! 55 refl $ forget ! 57 refl $ forget ! 59 refl $ forget ! 61 refl $ forget ! 63 refl $
         -- `too_many`
         assigns ! (addr ! (from ! (stop !))) (from ! (stop !)) (init ! 51 refl (tt, tt)) $
         assigns ! (agg ! (and-then ! (load ! (from ! (stop !)) (look ! 51 refl)) (and-then ! (lit ! tt) (no-more !)))) (from ! (stop !)) (init ! 49 refl (tt, (tt, (record { fits = lit< tt }, tt)))) $
         assigns ! (of-opd ! (load ! (from ! (fld ! refl (stop !))) (look-in ! 98 (sub ! 1 refl (whole !))))) (from ! (stop !)) (init ! 47 refl (tt, record { fits = h-room .0 })) $
-        runs-too l₆ l₇ l₈ (ended l₆ l₇ l₈ ws₁ rows₁ zs₀ ys (d₁ .0) .scratch) rows₁ (ended l₆ l₇ l₈ ws₁ rows₁ zs₀ ys (d₁ .0) .entries) gs₁ (d₂ .0) ! fm known-too-many (row-size qs (d₀ .0) rows₁ (d₀ .1 .1)) (told (d₂ .0) _ (d₂ .1 .0)) (h-room .0)
+        runs-too l₆ l₇ l₈ ws₁′ rows₁ zs₁ gs₁ (d₂ .0) ! fm known-too-many (count-sound ss ls qs ys zs₀ hs (d₀ .0) rows₁ (d₀ .1 .1) (d₁ .0) ws₁ (d₁ .1 .1) (passFrom (d₂ .0) ws₁′ gs₁ zs₁) (d₂ .1 .1 .1)) (told (d₂ .0) _ (d₂ .1 .0)) (h-room .0)
         (λ ν δ. (and-then ! (load ! (from ! (stop !)) (look ! 48 refl)) (and-then ! (load ! (from ! (stop !)) (look ! 105 refl)) (and-then ! (load ! (from ! (stop !)) (look ! 101 refl)) (and-then ! (load ! (from ! (stop !)) (look ! 88 refl)) (and-then ! (load ! (from ! (stop !)) (look ! 46 refl)) (no-more !))))))) (λ u₃ too is-too e-too.
         land ! (from ! (stop !)) (init ! 87 refl (bool-lawful 𝓤 H A W .typed too _ is-too .0)) $ rewrite ! 87 (λ (x : Val). ‵ (fat fullShare tyBool l₁₂ 0 x)) (ap only is-too) refl $
         forget ! 47 refl $ forget ! 49 refl $ forget ! 51 refl $
@@ -683,7 +688,7 @@ module _ {M : Type 1} (𝓤 : URA M) (H : Heap 𝓤) (A : Atoms 𝓤) (W : Given
         assigns ! (agg ! (and-then ! (load ! (from ! (stop !)) (look ! 45 refl)) (and-then ! (big-lit ! (record { fits = lit< tt })) (no-more !)))) (from ! (stop !)) (init ! 43 refl (tt, (tt, (record { fits = lit< tt }, tt)))) $
         assigns ! (of-opd ! (load ! (from ! (fld ! refl (stop !))) (look-in ! 106 (sub ! 1 refl (whole !))))) (from ! (stop !)) (init ! 47 refl (tt, record { fits = s-fits })) $
         assigns ! (of-opd ! (load ! (from ! (fld ! refl (stop !))) (look-in ! 100 (sub ! 1 refl (whole !))))) (from ! (stop !)) (init ! 41 refl (tt, record { fits = g-room .0 })) $
-        runs-again l₆ l₇ l₈ (ended l₆ l₇ l₈ ws₁ rows₁ zs₀ ys (d₁ .0) .scratch) rows₁ (ended l₆ l₇ l₈ ws₁ rows₁ zs₀ ys (d₁ .0) .entries) gs₁ (d₂ .0) too ! fm known-again (left-scratch ss ls qs ys zs₀ hs (d₀ .0) rows₁ (d₀ .1 .1) (d₁ .0) ws₁ (d₁ .1 .1) (passFrom (d₂ .0) (ended l₆ l₇ l₈ ws₁ rows₁ zs₀ ys (d₁ .0) .scratch) gs₁ (ended l₆ l₇ l₈ ws₁ rows₁ zs₀ ys (d₁ .0) .entries)) (d₂ .1 .1 .1)) (told (d₂ .0) _ (d₂ .1 .0)) s-fits (g-room .0)
+        runs-again l₆ l₇ l₈ ws₁′ rows₁ zs₁ gs₁ (d₂ .0) too ! fm known-again (left-scratch ss ls qs ys zs₀ hs (d₀ .0) rows₁ (d₀ .1 .1) (d₁ .0) ws₁ (d₁ .1 .1) (passFrom (d₂ .0) ws₁′ gs₁ zs₁) (d₂ .1 .1 .1)) (told (d₂ .0) _ (d₂ .1 .0)) s-fits (g-room .0)
         (λ ν δ. (and-then ! (load ! (from ! (stop !)) (look ! 44 refl)) (and-then ! (load ! (from ! (stop !)) (look ! 90 refl)) (and-then ! (load ! (from ! (stop !)) (look ! 48 refl)) (and-then ! (load ! (from ! (stop !)) (look ! 42 refl)) (and-then ! (load ! (from ! (stop !)) (look ! 88 refl)) (no-more !))))))) (λ u₄ ws₂ d₃.
         land ! (from ! (stop !)) (init ! 85 refl (LL.lawful TS.the-type TS′.the-laws 𝓤 H A W .typed (d₃ .0) _ (d₃ .1 .0) .0)) $ rewrite ! 85 (λ (x : Val). ‵ (fat fullShare TS′.mir l₁₃ 0 x)) (ap only (LL.tells TS.the-type TS′.the-laws (d₃ .0) _ (d₃ .1 .0))) refl $
         forget ! 41 refl $ forget ! 43 refl $ forget ! 45 refl $ forget ! 47 refl $
@@ -694,15 +699,15 @@ module _ {M : Type 1} (𝓤 : URA M) (H : Heap 𝓤) (A : Atoms 𝓤) (W : Given
         assigns ! (agg ! (and-then ! (load ! (from ! (stop !)) (look ! 35 refl)) (and-then ! (lit ! tt) (no-more !)))) (from ! (stop !)) (init ! 33 refl (tt, (tt, (record { fits = lit< tt }, tt)))) $
         assigns ! (addr ! (from ! (stop !))) (from ! (stop !)) (init ! 31 refl (tt, tt)) $
         assigns ! (agg ! (and-then ! (load ! (from ! (stop !)) (look ! 31 refl)) (and-then ! (big-lit ! (record { fits = lit< tt })) (no-more !)))) (from ! (stop !)) (init ! 29 refl (tt, (tt, (record { fits = lit< tt }, tt)))) $
-        runs-pass l₆ l₇ l₈ ws₂ rows₁ (ended l₆ l₇ l₈ ws₁ rows₁ zs₀ ys (d₁ .0) .entries) gs₁ (d₃ .0) ! fm known-pass (next-sound ss ls qs ys zs₀ hs (d₀ .0) rows₁ (d₀ .1 .1) (d₁ .0) ws₁ (d₁ .1 .1) (passFrom (d₂ .0) (ended l₆ l₇ l₈ ws₁ rows₁ zs₀ ys (d₁ .0) .scratch) gs₁ (ended l₆ l₇ l₈ ws₁ rows₁ zs₀ ys (d₁ .0) .entries)) (d₂ .1 .1 .1) too e-too (d₃ .0) (d₃ .1 .1 .0) ws₂ (d₃ .1 .1 .1)) (told (d₃ .0) _ (d₃ .1 .0)) (subst (Room TG.the-row) (sym (d₂ .1 .1 .0)) g-room) (ap (λ (m : ℕ). sliceVal (b₃, o₃) m) (sym (d₂ .1 .1 .0))) (el₁ ∙ is₂ .1 .0 .1)
-        (λ ν₁ δ₁ ν₂ δ₂ ν δ. (and-then ! (load ! (from ! (stop !)) (look ! 35 refl)) (and-then ! (load ! (from ! (stop !)) (look ! 31 refl)) (and-then ! (load ! (from ! (stop !)) (look ! 27 refl)) (and-then ! (load ! (from ! (stop !)) (look ! 104 refl)) (and-then ! (load ! (from ! (stop !)) (look ! 102 refl)) (and-then ! (load ! (from ! (stop !)) (look ! 83 refl)) (no-more !)))))))) (λ u₅ gs₂ wl₂ el₂ d₄.
+        runs-pass l₆ l₇ l₈ ws₂ rows₁ zs₁ gs₁ (d₃ .0) ! fm known-pass (next-sound ss ls qs ys zs₀ hs (d₀ .0) rows₁ (d₀ .1 .1) (d₁ .0) ws₁ (d₁ .1 .1) (passFrom (d₂ .0) ws₁′ gs₁ zs₁) (d₂ .1 .1 .1) too e-too (d₃ .0) (d₃ .1 .1 .0) ws₂ (d₃ .1 .1 .1)) (told (d₃ .0) _ (d₃ .1 .0)) (subst (Room TG.the-row) (sym (d₂ .1 .1 .0)) g-room) (ap (λ (m : ℕ). sliceVal (b₃, o₃) m) (sym (d₂ .1 .1 .0))) (el₁ ∙ is₂ .1 .0 .1)
+        (λ ν₁ δ₁ ν₂ δ₂ ν δ. (and-then ! (load ! (from ! (stop !)) (look ! 35 refl)) (and-then ! (load ! (from ! (stop !)) (look ! 31 refl)) (and-then ! (load ! (from ! (stop !)) (look ! 27 refl)) (and-then ! (load ! (from ! (stop !)) (look ! 104 refl)) (and-then ! (load ! (from ! (stop !)) (look ! 102 refl)) (and-then ! (load ! (from ! (stop !)) (look ! 83 refl)) (no-more !)))))))) (λ u₅ gs₂ ws₂′ zs₂ wl₂ el₂ d₄.
         land ! (from ! (stop !)) (init ! 83 refl (LL.lawful TS.the-type TS′.the-laws 𝓤 H A W .typed (d₄ .0) _ (d₄ .1 .0) .0)) $ rewrite ! 83 (λ (x : Val). ‵ (fat fullShare TS′.mir l₁₄ 0 x)) (ap only (LL.tells TS.the-type TS′.the-laws (d₄ .0) _ (d₄ .1 .0))) refl $
         forget ! 29 refl $ forget ! 31 refl $ forget ! 33 refl $ forget ! 35 refl $ forget ! 37 refl $ forget ! 39 refl $
         -- `progress`
         assigns ! (addr ! (from ! (stop !))) (from ! (stop !)) (init ! 27 refl (tt, tt)) $
         assigns ! (agg ! (and-then ! (load ! (from ! (stop !)) (look ! 27 refl)) (and-then ! (lit ! tt) (no-more !)))) (from ! (stop !)) (init ! 25 refl (tt, (tt, (record { fits = lit< tt }, tt)))) $
         assigns ! (of-opd ! (load ! (from ! (fld ! refl (stop !))) (look-in ! 98 (sub ! 1 refl (whole !))))) (from ! (stop !)) (init ! 47 refl (tt, record { fits = h-room .0 })) $
-        runs-progress l₆ l₇ l₈ (ended l₆ l₇ l₈ ws₂ rows₁ (ended l₆ l₇ l₈ ws₁ rows₁ zs₀ ys (d₁ .0) .entries) gs₁ (d₃ .0) .scratch) rows₁ (ended l₆ l₇ l₈ ws₂ rows₁ (ended l₆ l₇ l₈ ws₁ rows₁ zs₀ ys (d₁ .0) .entries) gs₁ (d₃ .0) .entries) gs₂ (d₄ .0) ! fm known-progress (row-size qs (d₀ .0) rows₁ (d₀ .1 .1)) (told (d₄ .0) _ (d₄ .1 .0)) (h-room .0)
+        runs-progress l₆ l₇ l₈ ws₂′ rows₁ zs₂ gs₂ (d₄ .0) ! fm known-progress (row-size qs (d₀ .0) rows₁ (d₀ .1 .1), few-sound ss ls qs ys zs₀ hs (d₀ .0) rows₁ (d₀ .1 .1) (d₁ .0) ws₁ (d₁ .1 .1) (passFrom (d₂ .0) ws₁′ gs₁ zs₁) (d₂ .1 .1 .1) too e-too (d₃ .0) (d₃ .1 .1 .0) ws₂ (d₃ .1 .1 .1) (passFrom (d₄ .0) ws₂′ gs₂ zs₂) (d₄ .1 .1 .1)) (told (d₄ .0) _ (d₄ .1 .0)) (h-room .0)
         (λ ν δ. (and-then ! (load ! (from ! (stop !)) (look ! 84 refl)) (and-then ! (load ! (from ! (stop !)) (look ! 26 refl)) (and-then ! (load ! (from ! (stop !)) (look ! 48 refl)) (no-more !))))) (λ u₆ g is-g e-g.
         land ! (from ! (stop !)) (init ! 81 refl (LL.lawful TP.the-type TP′.the-laws 𝓤 H A W .typed g _ is-g .0)) $ rewrite ! 81 (λ (x : Val). ‵ (fat fullShare TP′.mir l₁₅ 0 x)) (ap only (LL.tells TP.the-type TP′.the-laws g _ is-g)) refl $
         forget ! 25 refl $ forget ! 27 refl $ forget ! 47 refl $
@@ -713,7 +718,7 @@ module _ {M : Type 1} (𝓤 : URA M) (H : Heap 𝓤) (A : Atoms 𝓤) (W : Given
         assigns ! (agg ! (and-then ! (load ! (from ! (stop !)) (look ! 19 refl)) (and-then ! (load ! (from ! (fld ! refl (stop !))) (look-in ! 100 (sub ! 1 refl (whole !)))) (no-more !)))) (from ! (stop !)) (init ! 17 refl (tt, (tt, (record { fits = g-room .0 }, tt)))) $
         assigns ! (addr ! (from ! (stop !))) (from ! (stop !)) (init ! 15 refl (tt, tt)) $
         assigns ! (agg ! (and-then ! (load ! (from ! (stop !)) (look ! 15 refl)) (and-then ! (lit ! tt) (no-more !)))) (from ! (stop !)) (init ! 13 refl (tt, (tt, (record { fits = lit< tt }, tt)))) $
-        runs-search l₆ l₇ l₈ (ended l₆ l₇ l₈ ws₂ rows₁ (ended l₆ l₇ l₈ ws₁ rows₁ zs₀ ys (d₁ .0) .entries) gs₁ (d₃ .0) .scratch) rows₁ (ended l₆ l₇ l₈ ws₂ rows₁ (ended l₆ l₇ l₈ ws₁ rows₁ zs₀ ys (d₁ .0) .entries) gs₁ (d₃ .0) .entries) gs₂ g ! fm known-search (search-sound ss ls qs ys zs₀ hs (d₀ .0) rows₁ (d₀ .1 .1) (d₁ .0) ws₁ (d₁ .1 .1) (passFrom (d₂ .0) (ended l₆ l₇ l₈ ws₁ rows₁ zs₀ ys (d₁ .0) .scratch) gs₁ (ended l₆ l₇ l₈ ws₁ rows₁ zs₀ ys (d₁ .0) .entries)) (d₂ .1 .1 .1) too e-too (d₃ .0) (d₃ .1 .1 .0) ws₂ (d₃ .1 .1 .1) (passFrom (d₄ .0) (ended l₆ l₇ l₈ ws₂ rows₁ (ended l₆ l₇ l₈ ws₁ rows₁ zs₀ ys (d₁ .0) .entries) gs₁ (d₃ .0) .scratch) gs₂ (ended l₆ l₇ l₈ ws₂ rows₁ (ended l₆ l₇ l₈ ws₁ rows₁ zs₀ ys (d₁ .0) .entries) gs₁ (d₃ .0) .entries)) (d₄ .1 .1 .1) g e-g) (toldP g _ is-g) h-room (subst (Room TG.the-row) (sym (d₄ .1 .1 .0 ∙ d₂ .1 .1 .0)) g-room) (ap (λ (m : ℕ). sliceVal (b₃, o₃) m) (sym (d₄ .1 .1 .0 ∙ d₂ .1 .1 .0))) (row-size qs (d₀ .0) rows₁ (d₀ .1 .1))
+        runs-search l₆ l₇ l₈ ws₂′ rows₁ zs₂ gs₂ g ! fm known-search (search-sound ss ls qs ys zs₀ hs (d₀ .0) rows₁ (d₀ .1 .1) (d₁ .0) ws₁ (d₁ .1 .1) (passFrom (d₂ .0) ws₁′ gs₁ zs₁) (d₂ .1 .1 .1) too e-too (d₃ .0) (d₃ .1 .1 .0) ws₂ (d₃ .1 .1 .1) (passFrom (d₄ .0) ws₂′ gs₂ zs₂) (d₄ .1 .1 .1) g e-g) (toldP g _ is-g) h-room (subst (Room TG.the-row) (sym (d₄ .1 .1 .0 ∙ d₂ .1 .1 .0)) g-room) (ap (λ (m : ℕ). sliceVal (b₃, o₃) m) (sym (d₄ .1 .1 .0 ∙ d₂ .1 .1 .0))) (row-size qs (d₀ .0) rows₁ (d₀ .1 .1))
         (λ ν₁ δ₁ ν₂ δ₂ ν δ. (and-then ! (load ! (from ! (stop !)) (look ! 18 refl)) (and-then ! (load ! (from ! (stop !)) (look ! 14 refl)) (and-then ! (load ! (from ! (stop !)) (look ! 103 refl)) (and-then ! (load ! (from ! (stop !)) (look ! 99 refl)) (and-then ! (load ! (from ! (stop !)) (look ! 10 refl)) (and-then ! (load ! (from ! (stop !)) (look ! 78 refl)) (no-more !)))))))) (λ u₇ hs₁ d₅.
         land ! (from ! (stop !)) (init ! 79 refl (LL.lawful TP.the-type TP′.the-laws 𝓤 H A W .typed (d₅ .0) _ (d₅ .1 .0) .0)) $ rewrite ! 79 (λ (x : Val). ‵ (fat fullShare TP′.mir l₁₆ 0 x)) (ap only (LL.tells TP.the-type TP′.the-laws (d₅ .0) _ (d₅ .1 .0))) refl $
         forget ! 13 refl $ forget ! 15 refl $ forget ! 17 refl $ forget ! 19 refl $ forget ! 21 refl $ forget ! 23 refl $
@@ -723,11 +728,11 @@ module _ {M : Type 1} (𝓤 : URA M) (H : Heap 𝓤) (A : Atoms 𝓤) (W : Given
         asks 𝓤 H A W answer-fn.ended (answer-fn.clauses 𝓤 H A mem run) ! fm known-answer (to-answer (d₄ .0) (d₅ .0)) (λ r. r ≡ findAnswerOf (d₄ .0) (d₅ .0)) (λ r ws. id⊢ 𝓤 _) (and-then ! (load ! (from ! (stop !)) (look ! 84 refl)) (and-then ! (load ! (from ! (stop !)) (look ! 80 refl)) (no-more !))) (λ v r e.
         peeks ! TF.the-row (Is TF.the-row) (shows 𝓤 H A TF.the-row) r (v ∷ []) (λ is. land ! (from ! (stop !)) (init ! 110 refl (EL.lawful TF.the-type TF′.the-laws 𝓤 H A W tt .typed r _ is .0)) $ drop ! $ drop ! $
         -- the arrays are the locals again: [_8; _7; _6; what the parameters own; _49; …; what frees _8; what frees _7; what frees _6; …; _0; …]
-        use1 W (some (λ (us : List Val). ‵ (fat fullShare (tyArray (tyInt w32) 8768) l₆ 0 (arrayVal us)) ⊛ ‵ (Array u32 8768 .own (ended l₆ l₇ l₈ ws₂ rows₁ (ended l₆ l₇ l₈ ws₁ rows₁ zs₀ ys (d₁ .0) .entries) gs₁ (d₃ .0) .scratch) (arrayVal us ∷ [])))) (local-in 𝓤 H A W u32 8768 l₆ (ended l₆ l₇ l₈ ws₂ rows₁ (ended l₆ l₇ l₈ ws₁ rows₁ zs₀ ys (d₁ .0) .entries) gs₁ (d₃ .0) .scratch) (wl₂ ∙ d₃ .1 .1 .1 .scratch .size)) $ pick ! (λ us₀. split ! $ move ! (1 ∷ []) $ drop ! $
+        use1 W (some (λ (us : List Val). ‵ (fat fullShare (tyArray (tyInt w32) 8768) l₆ 0 (arrayVal us)) ⊛ ‵ (Array u32 8768 .own ws₂′ (arrayVal us ∷ [])))) (local-in 𝓤 H A W u32 8768 l₆ ws₂′ (wl₂ ∙ d₃ .1 .1 .1 .scratch .size)) $ pick ! (λ us₀. split ! $ move ! (1 ∷ []) $ drop ! $
         move ! (1 ∷ []) $
         use1 W (some (λ (us : List Val). ‵ (fat fullShare (tyArray (tyInt w32) 193) l₇ 0 (arrayVal us)) ⊛ ‵ (Array u32 193 .own rows₁ (arrayVal us ∷ [])))) (local-in 𝓤 H A W u32 193 l₇ rows₁ (row-size qs (d₀ .0) rows₁ (d₀ .1 .1))) $ pick ! (λ us₁. split ! $ move ! (1 ∷ []) $ drop ! $
         move ! (2 ∷ []) $
-        use1 W (some (λ (us : List Val). ‵ (fat fullShare (tyArray TE′.mir 1) l₈ 0 (arrayVal us)) ⊛ ‵ (Array TE.the-row 1 .own (ended l₆ l₇ l₈ ws₂ rows₁ (ended l₆ l₇ l₈ ws₁ rows₁ zs₀ ys (d₁ .0) .entries) gs₁ (d₃ .0) .entries) (arrayVal us ∷ [])))) (local-in 𝓤 H A W TE.the-row 1 l₈ (ended l₆ l₇ l₈ ws₂ rows₁ (ended l₆ l₇ l₈ ws₁ rows₁ zs₀ ys (d₁ .0) .entries) gs₁ (d₃ .0) .entries) (el₂ ∙ el₁ ∙ is₂ .1 .0 .1)) $ pick ! (λ us₂. split ! $ move ! (1 ∷ []) $ drop ! $
+        use1 W (some (λ (us : List Val). ‵ (fat fullShare (tyArray TE′.mir 1) l₈ 0 (arrayVal us)) ⊛ ‵ (Array TE.the-row 1 .own zs₂ (arrayVal us ∷ [])))) (local-in 𝓤 H A W TE.the-row 1 l₈ zs₂ (el₂ ∙ el₁ ∙ is₂ .1 .0 .1)) $ pick ! (λ us₂. split ! $ move ! (1 ∷ []) $ drop ! $
         returns ! (look ! 108 refl) $ forget ! 0 refl $ forget ! 1 refl $ forget ! 2 refl $
         forget ! 79 refl $ forget ! 81 refl $ forget ! 83 refl $ forget ! 85 refl $ forget ! 87 refl $ forget ! 89 refl $ forget ! 91 refl $ forget ! 93 refl $ forget ! 98 refl $ forget ! 100 refl $ forget ! 102 refl $ forget ! 104 refl $ forget ! 106 refl $
         forget ! 108 refl $
@@ -741,10 +746,10 @@ module _ {M : Type 1} (𝓤 : URA M) (H : Heap 𝓤) (A : Atoms 𝓤) (W : Given
         move ! (24 ∷ 25 ∷ []) $ free1 ! $ move ! (22 ∷ 23 ∷ []) $ free1 ! $ move ! (20 ∷ 21 ∷ []) $ free1 ! $ move ! (18 ∷ 19 ∷ []) $ free1 ! $ move ! (16 ∷ 17 ∷ []) $ free1 ! $ move ! (14 ∷ 15 ∷ []) $ free1 ! $
         move ! (12 ∷ 13 ∷ []) $ free1 ! $ move ! (10 ∷ 11 ∷ []) $ free1 ! $
         free0 ! $
-        by ! (exits r v gs₂ hs₁ (let y = finds-as ss ls qs ys zs₀ hs (d₀ .0) rows₁ (d₀ .1 .1) (d₁ .0) ws₁ (d₁ .1 .1) (passFrom (d₂ .0) (ended l₆ l₇ l₈ ws₁ rows₁ zs₀ ys (d₁ .0) .scratch) gs₁ (ended l₆ l₇ l₈ ws₁ rows₁ zs₀ ys (d₁ .0) .entries)) (d₂ .1 .1 .1) too e-too (d₃ .0) (d₃ .1 .1 .0) ws₂ (d₃ .1 .1 .1) (passFrom (d₄ .0) (ended l₆ l₇ l₈ ws₂ rows₁ (ended l₆ l₇ l₈ ws₁ rows₁ zs₀ ys (d₁ .0) .entries) gs₁ (d₃ .0) .scratch) gs₂ (ended l₆ l₇ l₈ ws₂ rows₁ (ended l₆ l₇ l₈ ws₁ rows₁ zs₀ ys (d₁ .0) .entries) gs₁ (d₃ .0) .entries)) (d₄ .1 .1 .1) g e-g (record { state = d₅ .0; hits = hs₁ }) (d₅ .1 .1 .1) in (e ∙ y .0, y .1, y .2)) (d₄ .1 .1 .0 ∙ d₂ .1 .1 .0) (d₅ .1 .1 .0) is))))))))))))))))))))))))))))))))))))))))))))))))))))))))))))))))))))))
+        by ! (exits r v gs₂ hs₁ (let y = finds-as ss ls qs ys zs₀ hs (d₀ .0) rows₁ (d₀ .1 .1) (d₁ .0) ws₁ (d₁ .1 .1) (passFrom (d₂ .0) ws₁′ gs₁ zs₁) (d₂ .1 .1 .1) too e-too (d₃ .0) (d₃ .1 .1 .0) ws₂ (d₃ .1 .1 .1) (passFrom (d₄ .0) ws₂′ gs₂ zs₂) (d₄ .1 .1 .1) g e-g (record { state = d₅ .0; hits = hs₁ }) (d₅ .1 .1 .1) in (e ∙ y .0, y .1, y .2)) (d₄ .1 .1 .0 ∙ d₂ .1 .1 .0) (d₅ .1 .1 .0) is))))))))))))))))))))))))))))))))))))))))))))))))))))))))))))))))))))))
 
 module _ {M : Type 1} (𝓤 : URA M) (H : Heap 𝓤) (A : Atoms 𝓤) (W : Given 𝓤 H A) (mem : Memory → SProp 𝓤) (run : Routine → Fun 𝓤) (𝓣 : Tables 𝓤 H)
-    (known-room : Triple 𝓤 (𝓣 .C #read·room) (Rooms 𝓤 H A mem run)) (known-query-room : Triple 𝓤 (𝓣 .C #find·query-room) (QueryRooms 𝓤 H A mem run)) (known-no-entries : Triple 𝓤 (𝓣 .C #find·no-entries) (Nones 𝓤 H A mem run)) (known-ask : Triple 𝓤 (𝓣 .C #find-setup·ask) (Asks 𝓤 H A mem run)) (known-start : Triple 𝓤 (𝓣 .C #find-setup·start) (Starts 𝓤 H A mem run)) (known-pass : Triple 𝓤 (𝓣 .C #read-pass·pass) (Passes 𝓤 H A mem run)) (known-too-many : Triple 𝓤 (𝓣 .C #find-setup·too-many) (TooManys 𝓤 H A mem run)) (known-again : Triple 𝓤 (𝓣 .C #find-setup·again) (Agains 𝓤 H A mem run)) (known-progress : Triple 𝓤 (𝓣 .C #find-setup·progress) (Begins 𝓤 H A mem run)) (known-search : Triple 𝓤 (𝓣 .C #find-search·search) (Searches 𝓤 H A mem run)) (known-answer : Triple 𝓤 (𝓣 .C #find-setup·answer) (Answers 𝓤 H A mem run)) where
+    (known-room : Triple 𝓤 (𝓣 .C #read-scratch·room) (Rooms 𝓤 H A mem run)) (known-query-room : Triple 𝓤 (𝓣 .C #find·query-room) (QueryRooms 𝓤 H A mem run)) (known-no-entries : Triple 𝓤 (𝓣 .C #find·no-entries) (Nones 𝓤 H A mem run)) (known-ask : Triple 𝓤 (𝓣 .C #find-ask·ask) (Asks 𝓤 H A mem run)) (known-start : Triple 𝓤 (𝓣 .C #find-setup·start) (Starts 𝓤 H A mem run)) (known-pass : Triple 𝓤 (𝓣 .C #read-pass·pass) (Passes 𝓤 H A mem run)) (known-too-many : Triple 𝓤 (𝓣 .C #find-room·too-many) (TooManys 𝓤 H A mem run)) (known-again : Triple 𝓤 (𝓣 .C #find-setup·again) (Agains 𝓤 H A mem run)) (known-progress : Triple 𝓤 (𝓣 .C #find-setup·progress) (Begins 𝓤 H A mem run)) (known-search : Triple 𝓤 (𝓣 .C #find-search·search) (Searches 𝓤 H A mem run)) (known-answer : Triple 𝓤 (𝓣 .C #find-setup·answer) (Answers 𝓤 H A mem run)) where
   find-walks : Walks 𝓤 H A f.ended stayed (WpFn 𝓤 H (𝓣 .C) (𝓣 .Λ) code.function) (f.clauses 𝓤 H A mem run)
   find-walks = walked 𝓤 H A f.ended stayed (f.clauses 𝓤 H A mem run) (WpFn 𝓤 H (𝓣 .C) (𝓣 .Λ) code.function)
       (λ κs. (slice-vals, (slice-vals, (slice-vals, (slice-vals, (slice-vals, tt))))))
@@ -766,13 +771,13 @@ find-spec 𝓤 H 𝓜 𝓖 𝓡 =
     entered 𝓤 H (tripleOf 𝓤 H (𝓖 .A) f.signature (f.spec 𝓤 H (𝓖 .A) (𝓜 .mem) (𝓡 .run)))
     (tables 𝓤 H 𝓜 𝓡 code.env .C) (tables 𝓤 H 𝓜 𝓡 code.env .Λ) #find·find code.function (code.unfolded 𝓤 H 𝓜 𝓡)
     (find-meets 𝓤 H (𝓖 .A) (givenOf 𝓤 H 𝓜 𝓖) (𝓜 .mem) (𝓡 .run) (tablesOf 𝓤 H 𝓜 (tables 𝓤 H 𝓜 𝓡 code.env))
-    (cited 𝓤 H (Rooms 𝓤 H (𝓖 .A) (𝓜 .mem) (𝓡 .run)) 𝓜 𝓡 code.env #read·room room-def.routine code.calls-read·room (room-thm.met 𝓤 H 𝓜 𝓖 𝓡))
+    (cited 𝓤 H (Rooms 𝓤 H (𝓖 .A) (𝓜 .mem) (𝓡 .run)) 𝓜 𝓡 code.env #read-scratch·room room-def.routine code.calls-read-scratch·room (room-thm.met 𝓤 H 𝓜 𝓖 𝓡))
     (cited 𝓤 H (QueryRooms 𝓤 H (𝓖 .A) (𝓜 .mem) (𝓡 .run)) 𝓜 𝓡 code.env #find·query-room query-room-def.routine code.calls-find·query-room (query-room-thm.met 𝓤 H 𝓜 𝓖 𝓡))
     (cited 𝓤 H (Nones 𝓤 H (𝓖 .A) (𝓜 .mem) (𝓡 .run)) 𝓜 𝓡 code.env #find·no-entries no-entries-def.routine code.calls-find·no-entries (no-entries-thm.met 𝓤 H 𝓜 𝓖 𝓡))
-    (cited 𝓤 H (Asks 𝓤 H (𝓖 .A) (𝓜 .mem) (𝓡 .run)) 𝓜 𝓡 code.env #find-setup·ask ask-def.routine code.calls-find-setup·ask (ask-thm.met 𝓤 H 𝓜 𝓖 𝓡))
+    (cited 𝓤 H (Asks 𝓤 H (𝓖 .A) (𝓜 .mem) (𝓡 .run)) 𝓜 𝓡 code.env #find-ask·ask ask-def.routine code.calls-find-ask·ask (ask-thm.met 𝓤 H 𝓜 𝓖 𝓡))
     (cited 𝓤 H (Starts 𝓤 H (𝓖 .A) (𝓜 .mem) (𝓡 .run)) 𝓜 𝓡 code.env #find-setup·start start-def.routine code.calls-find-setup·start (start-thm.met 𝓤 H 𝓜 𝓖 𝓡))
     (cited 𝓤 H (Passes 𝓤 H (𝓖 .A) (𝓜 .mem) (𝓡 .run)) 𝓜 𝓡 code.env #read-pass·pass pass-def.routine code.calls-read-pass·pass (pass-thm.met 𝓤 H 𝓜 𝓖 𝓡))
-    (cited 𝓤 H (TooManys 𝓤 H (𝓖 .A) (𝓜 .mem) (𝓡 .run)) 𝓜 𝓡 code.env #find-setup·too-many too-many-def.routine code.calls-find-setup·too-many (too-many-thm.met 𝓤 H 𝓜 𝓖 𝓡))
+    (cited 𝓤 H (TooManys 𝓤 H (𝓖 .A) (𝓜 .mem) (𝓡 .run)) 𝓜 𝓡 code.env #find-room·too-many too-many-def.routine code.calls-find-room·too-many (too-many-thm.met 𝓤 H 𝓜 𝓖 𝓡))
     (cited 𝓤 H (Agains 𝓤 H (𝓖 .A) (𝓜 .mem) (𝓡 .run)) 𝓜 𝓡 code.env #find-setup·again again-def.routine code.calls-find-setup·again (again-thm.met 𝓤 H 𝓜 𝓖 𝓡))
     (cited 𝓤 H (Begins 𝓤 H (𝓖 .A) (𝓜 .mem) (𝓡 .run)) 𝓜 𝓡 code.env #find-setup·progress progress-def.routine code.calls-find-setup·progress (progress-thm.met 𝓤 H 𝓜 𝓖 𝓡))
     (cited 𝓤 H (Searches 𝓤 H (𝓖 .A) (𝓜 .mem) (𝓡 .run)) 𝓜 𝓡 code.env #find-search·search search-def.routine code.calls-find-search·search (search-thm.met 𝓤 H 𝓜 𝓖 𝓡))

@@ -1,6 +1,6 @@
-use Rattle.find_count.specs.Count.{wantedFrom, turnsLeft}
-use Rattle.find_count.proofs.Counting.{Counting}
-use Rattle.find_count.proofs.Counting.{countings}
+use Rattle.find_match.specs.Match.{wantedFrom}
+use Rattle.find_count.specs.Count.{turnsLeft}
+use Rattle.find_count.proofs.Counting.{Counting, countings}
 use Rattle.find_count.proofs.count.Statement.{statement}
 use Rattle.find_count.proofs.count.Tie as tie
 use Rattle.find_count.proofs.count.Reads as reads
@@ -8,7 +8,7 @@ use Rattle.find_count.proofs.count.Lts as lts
 use Rattle.find_count.proofs.counted.Reads as counted-reads
 use Rattle.find_count.proofs.following.Reads as following-reads
 use Rattle.find_count.proofs.occurs_at.Reads as occurs-at-reads
-use Rattle.find_count.proofs.standing.Reads as standing-reads
+use Rattle.find_outline.proofs.standing.Reads as standing-reads
 
 abbrev Inv-loop : tie.InvT-loop
 Inv-loop s q rows glyphs m₀ n₀ m n = Counting s (wantedFrom glyphs q rows 0) m n

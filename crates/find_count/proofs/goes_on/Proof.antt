@@ -1,6 +1,5 @@
 use Prim.Native.Nat.{_-_}
-use Rattle.find_count.proofs.Counting.{Going}
-use Rattle.find_count.proofs.Counting.{goings}
+use Rattle.find_count.proofs.Counting.{Going, goings}
 use Rattle.find_count.proofs.goes_on.Statement.{statement}
 use Rattle.find_count.proofs.goes_on.Tie as tie
 use Rattle.find_count.proofs.goes_on.Reads as reads

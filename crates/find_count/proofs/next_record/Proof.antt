@@ -1,11 +1,10 @@
-use Rattle.find_count.proofs.Counting.{Nexting}
-use Rattle.find_count.specs.Count.{movesLeft}
-use Rattle.find_count.proofs.Counting.{nexting}
+use Rattle.find_count.proofs.Counting.{Nexting, nexting}
+use Rattle.find_keys.specs.Keys.{movesLeft}
 use Rattle.find_count.proofs.next_record.Statement.{statement}
 use Rattle.find_count.proofs.next_record.Tie as tie
 use Rattle.find_count.proofs.next_record.Reads as reads
 use Rattle.find_count.proofs.next_record.Lts as lts
-use Rattle.find_count.proofs.passing.Reads as passing-reads
+use Rattle.find_outline.proofs.passing.Reads as passing-reads
 use Rattle.find_count.proofs.step.Reads as step-reads
 
 abbrev Inv-loop : tie.InvT-loop

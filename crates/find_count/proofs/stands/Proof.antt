@@ -3,7 +3,7 @@ use Rattle.find_count.proofs.stands.Statement.{statement}
 use Rattle.find_count.proofs.stands.Tie as tie
 use Rattle.find_count.proofs.stands.Reads as reads
 use Rattle.find_count.proofs.stands.Lts as lts
-use Rattle.find_count.proofs.fits.Reads as fits-reads
+use Rattle.find_match.proofs.fits.Reads as fits-reads
 
 fits-requires : tie.Need-fits-requires
 fits-requires c κs = search fitting

@@ -1,4 +1,4 @@
-use Rattle.find_count.proofs.Moves.{step-laws}
+use Rattle.find_count.proofs.Steps.{step-laws}
 use Rattle.find_count.proofs.step.Statement.{statement}
 use Rattle.find_count.proofs.step.Tie as tie
 

@@ -5,7 +5,7 @@ use Rattle.find_match.proofs.test.Reads as reads
 use Rattle.find_match.proofs.test.Lts as lts
 use Rattle.find_match.proofs.gap_test.Reads as gap-test-reads
 use Rattle.find_match.proofs.wide.Reads as wide-reads
-use Rattle.query.proofs.part.Reads as part-reads
+use Rattle.find_match.proofs.part.Reads as part-reads
 use Rattle.scan_lex.proofs.same_bytes.Reads as same-bytes-reads
 
 returns : tie.Need-returns

@@ -44,19 +44,20 @@ use denote.Triple.Walked.{says, needs, Stays, stay-slice, stay-none-slice, stay-
 use denote.Exit.{yes}
 use denote.Signature.{plain}
 use Rattle.rules.specs.declared.Record.{Record}
-use Rattle.find_search.specs.declared.Progress.{Progress}
-use Rattle.find_search.specs.declared.Fed.{Fed}
-use Rattle.find_search.specs.declared.Act.{Act}
-use Rattle.find_search.specs.declared.Act.the-variants as F
-use Rattle.find_search.specs.Search.{feedOf, Good, blank, hitsAfter, Looked, searchOf, SearchReady}
+use Rattle.find_compare.specs.declared.Progress.{Progress}
+use Rattle.find_compare.specs.declared.Fed.{Fed}
+use Rattle.find_compare.specs.declared.FindAct.{FindAct}
+use Rattle.find_compare.specs.declared.FindAct.the-variants as F
+use Rattle.find_compare.specs.Compare.{feedOf, SearchGood}
+use Rattle.find_search.specs.Search.{blank, hitsAfter, Looked, searchOf, SearchReady}
 use Rattle.rules.proofs.Record as TG
 use Rattle.rules.proofs.Record.Laws as TG′
-use Rattle.find_search.proofs.Act as TA
-use Rattle.find_search.proofs.Act.Laws as TA′
-use Rattle.find_search.proofs.Progress as TS
-use Rattle.find_search.proofs.Progress.Laws as TS′
-use Rattle.find_search.proofs.Fed as TN
-use Rattle.find_search.proofs.Fed.Laws as TN′
+use Rattle.find_compare.proofs.FindAct as TA
+use Rattle.find_compare.proofs.FindAct.Laws as TA′
+use Rattle.find_compare.proofs.Progress as TS
+use Rattle.find_compare.proofs.Progress.Laws as TS′
+use Rattle.find_compare.proofs.Fed as TN
+use Rattle.find_compare.proofs.Fed.Laws as TN′
 use Rattle.rowkit.proofs.Rows.{refAt, Put, puts-last, asks}
 use Rattle.rowkit.proofs.Turns.{Again, by-turns}
 use Rattle.find_search.proofs.Looking.{Known, first-known, behind, at-in, in-row, next-known, run-done}
@@ -64,10 +65,10 @@ use Rattle.find_search.proofs.get_record as get-record
 use Rattle.find_search.proofs.get_record.Symbol as get-record-def
 use Rattle.find_search.proofs.get_record.Symbol.{name as #find-search·get-record}
 use Rattle.find_search.proofs.get_record.Met as get-record-thm
-use Rattle.find_search.proofs.feed as feed
-use Rattle.find_search.proofs.feed.Symbol as feed-def
-use Rattle.find_search.proofs.feed.Symbol.{name as #find-search·feed}
-use Rattle.find_search.proofs.feed.Met as feed-thm
+use Rattle.find_compare.proofs.feed as feed
+use Rattle.find_compare.proofs.feed.Symbol as feed-def
+use Rattle.find_compare.proofs.feed.Symbol.{name as #find-compare·feed}
+use Rattle.find_compare.proofs.feed.Met as feed-thm
 use Rattle.find_search.proofs.put_hit.Symbol as put-hit-def
 use Rattle.find_search.proofs.put_hit.Symbol.{name as #find-search·put-hit}
 use Rattle.find_search.proofs.put_hit.Met as put-hit-thm
@@ -214,7 +215,7 @@ module _ {M : Type 1} (𝓤 : URA M) (H : Heap 𝓤) (A : Atoms 𝓤) (W : Given
   abbrev to-feed : Progress → Record → Feed 𝓤 H A mem run .Ghost
   to-feed st g = (((κ₂, (κ₃, (κ₄, tt))), (q₂, (q₃, (q₄, tt))), tt, (refAt b₂ o₂ γ₂ ss, (refAt b₃ o₃ γ₃ qs, (refAt b₄ o₄ γ₄ ts, (st, (g, tt))))), (sv ∷ [], (qv ∷ [], (tv ∷ [], (stv st ∷ [], (gv g ∷ [], tt)))))), tt)
 
-  goes-feed : (st : Progress) (g : Record) → (length ts ≡ 193) × Good st
+  goes-feed : (st : Progress) (g : Record) → (length ts ≡ 193) × SearchGood st
       → ent 𝓤 (sep 𝓤 (sep 𝓤 (A .lft κ₂ q₂) (sep 𝓤 (A .lft κ₃ q₃) (A .lft κ₄ q₄))) (sep 𝓤 (sep 𝓤 (sem 𝓤 H A Str) (sep 𝓤 (sem 𝓤 H A Query) (sem 𝓤 H A Rows))) (sep 𝓤 (sem 𝓤 H A (TS.the-row .own st (stv st ∷ []))) (sem 𝓤 H A (TG.the-row .own g (gv g ∷ [])))))) (Feed 𝓤 H A mem run .pre (to-feed st g))
   goes-feed st g asked =
       qed W ((‵ (flft κ₂ q₂) ⊛ ‵ (flft κ₃ q₃) ⊛ ‵ (flft κ₄ q₄)) ∷ (‵ Str ⊛ ‵ Query ⊛ ‵ Rows) ∷ (‵ (TS.the-row .own st (stv st ∷ [])) ⊛ ‵ (TG.the-row .own g (gv g ∷ []))) ∷ []) ∵ says ! asked $
@@ -222,7 +223,7 @@ module _ {M : Type 1} (𝓤 : URA M) (H : Heap 𝓤) (A : Atoms 𝓤) (W : Given
       split ! $ move ! (1 ∷ []) $ split ! $ move ! (3 ∷ []) $ split ! $
       nothing ! $ move ! (2 ∷ 0 ∷ []) $ fjoin ! $ move ! (1 ∷ 0 ∷ []) $ fjoin ! $ move ! (2 ∷ 0 ∷ []) $ fjoin ! $ move ! (1 ∷ 0 ∷ []) $ fjoin ! $ move ! (1 ∷ 0 ∷ []) $ fjoin ! $ done !
 
-  module _ (𝓣 : Tables 𝓤 H) (known-get : Triple 𝓤 (𝓣 .C #find-search·get-record) (Get 𝓤 H A mem run)) (known-feed : Triple 𝓤 (𝓣 .C #find-search·feed) (Feed 𝓤 H A mem run)) (known-hit : Triple 𝓤 (𝓣 .C #find-search·put-hit) (Put u32 𝓤 H A))
+  module _ (𝓣 : Tables 𝓤 H) (known-get : Triple 𝓤 (𝓣 .C #find-search·get-record) (Get 𝓤 H A mem run)) (known-feed : Triple 𝓤 (𝓣 .C #find-compare·feed) (Feed 𝓤 H A mem run)) (known-hit : Triple 𝓤 (𝓣 .C #find-search·put-hit) (Put u32 𝓤 H A))
       (h-room : Room u32 (length hs)) (r-fits : length rs < 2 ^ 64) (s-fits : length ss < 2 ^ 64) (q-fits : length qs < 2 ^ 64) (t-fits : length ts < 2 ^ 64) (is₀ : Is TS.the-row st₀ (stv st₀ ∷ [])) (sound : SearchReady (length rs) (length hs) ts st₀) where
     abbrev C : Calls 𝓤 H
     C = 𝓣 .C
@@ -286,7 +287,7 @@ module _ {M : Type 1} (𝓤 : URA M) (H : Heap 𝓤) (A : Atoms 𝓤) (W : Given
         goes-on : (x : Fed) → x ≡ feedOf ss qs ts (p .state) (getD rs i₀ blank) → Is TS.the-row (x .state) (stv (x .state) ∷ []) → ent 𝓤 (⋆ 𝓤 H A (At (k, behind ss qs ts rs p₀ p x))) X
         goes-on x e is = again (k, behind ss qs ts rs p₀ p x) (record { known = next-known ss qs ts rs p₀ k p (kn .known) going x e; is = is }) (omega arith)
 
-        decides : (a : Act) (st′ : Progress) → record { act = a; state = st′ } ≡ feedOf ss qs ts (p .state) (getD rs i₀ blank) → Is TN.the-row (record { act = a; state = st′ }) (xv (record { act = a; state = st′ }) ∷ [])
+        decides : (a : FindAct) (st′ : Progress) → record { act = a; state = st′ } ≡ feedOf ss qs ts (p .state) (getD rs i₀ blank) → Is TN.the-row (record { act = a; state = st′ }) (xv (record { act = a; state = st′ }) ∷ [])
             → Sq W (Cx (p .hits) (p .state) (‵ (fat fullShare TN′.mir l₁₀ 0 (xv (record { act = a; state = st′ }))))) (Kit.runs C Λ En after-feed (anyQ (afterTurn 𝓤 H X Left)))
         unfolding afterTurn
         decides (F.Hit j i) st′ e is =
@@ -384,7 +385,7 @@ module _ {M : Type 1} (𝓤 : URA M) (H : Heap 𝓤) (A : Atoms 𝓤) (W : Given
         starts l₀ l₁ l₂ l₃ l₄ l₅ l₆ l₇ l₈ l₉ l₁₀ l₁₁ l₁₂ l₁₃ l₁₄ l₁₅ l₁₆ l₁₇ p₀ (record { known = first-known ss qs ts rs p₀ sound; is = is₀ })))))))))))))))))))
 
 module _ {M : Type 1} (𝓤 : URA M) (H : Heap 𝓤) (A : Atoms 𝓤) (W : Given 𝓤 H A) (mem : Memory → SProp 𝓤) (run : Routine → Fun 𝓤) (𝓣 : Tables 𝓤 H)
-    (known-get : Triple 𝓤 (𝓣 .C #find-search·get-record) (Get 𝓤 H A mem run)) (known-feed : Triple 𝓤 (𝓣 .C #find-search·feed) (Feed 𝓤 H A mem run)) (known-hit : Triple 𝓤 (𝓣 .C #find-search·put-hit) (Put u32 𝓤 H A)) where
+    (known-get : Triple 𝓤 (𝓣 .C #find-search·get-record) (Get 𝓤 H A mem run)) (known-feed : Triple 𝓤 (𝓣 .C #find-compare·feed) (Feed 𝓤 H A mem run)) (known-hit : Triple 𝓤 (𝓣 .C #find-search·put-hit) (Put u32 𝓤 H A)) where
   search-walks : Walks 𝓤 H A f.ended stayed (WpFn 𝓤 H (𝓣 .C) (𝓣 .Λ) code.function) (f.clauses 𝓤 H A mem run)
   search-walks = walked 𝓤 H A f.ended stayed (f.clauses 𝓤 H A mem run) (WpFn 𝓤 H (𝓣 .C) (𝓣 .Λ) code.function)
       (λ κs. (slice-vals, (slice-vals, (slice-vals, (slice-vals, (slice-vals, (LL.vals TS.the-type TS′.the-laws, tt)))))))
@@ -407,5 +408,5 @@ search-spec 𝓤 H 𝓜 𝓖 𝓡 =
     (tables 𝓤 H 𝓜 𝓡 code.env .C) (tables 𝓤 H 𝓜 𝓡 code.env .Λ) #find-search·search code.function (code.unfolded 𝓤 H 𝓜 𝓡)
     (search-meets 𝓤 H (𝓖 .A) (givenOf 𝓤 H 𝓜 𝓖) (𝓜 .mem) (𝓡 .run) (tablesOf 𝓤 H 𝓜 (tables 𝓤 H 𝓜 𝓡 code.env))
     (cited 𝓤 H (Get 𝓤 H (𝓖 .A) (𝓜 .mem) (𝓡 .run)) 𝓜 𝓡 code.env #find-search·get-record get-record-def.routine code.calls-find-search·get-record (get-record-thm.met 𝓤 H 𝓜 𝓖 𝓡))
-    (cited 𝓤 H (Feed 𝓤 H (𝓖 .A) (𝓜 .mem) (𝓡 .run)) 𝓜 𝓡 code.env #find-search·feed feed-def.routine code.calls-find-search·feed (feed-thm.met 𝓤 H 𝓜 𝓖 𝓡))
+    (cited 𝓤 H (Feed 𝓤 H (𝓖 .A) (𝓜 .mem) (𝓡 .run)) 𝓜 𝓡 code.env #find-compare·feed feed-def.routine code.calls-find-compare·feed (feed-thm.met 𝓤 H 𝓜 𝓖 𝓡))
     (cited 𝓤 H (Put u32 𝓤 H (𝓖 .A)) 𝓜 𝓡 code.env #find-search·put-hit put-hit-def.routine code.calls-find-search·put-hit (put-hit-thm.met 𝓤 H 𝓜 𝓖 𝓡)))

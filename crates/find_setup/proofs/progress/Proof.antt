@@ -4,7 +4,7 @@ use Rattle.find_setup.proofs.progress.Tie as tie
 use Rattle.find_setup.proofs.progress.Reads as reads
 use Rattle.find_setup.proofs.progress.Lts as lts
 use Rattle.find_setup.proofs.searched.Reads as searched-reads
-use Rattle.find_setup.proofs.wide.Reads as wide-reads
+use Rattle.find_match.proofs.wide.Reads as wide-reads
 
 searched-requires : tie.Need-searched-requires
 searched-requires c κs = search finding-laws

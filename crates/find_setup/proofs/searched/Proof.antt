@@ -10,8 +10,5 @@ returns c = search finding-laws
 returns-2 : tie.Need-returns-2
 returns-2 c = search finding-laws
 
-returns-3 : tie.Need-returns-3
-returns-3 c = search finding-laws
-
 pub searched-spec : {M : Type 1} → statement M
-searched-spec = tie.close (tie.spec returns returns-2 returns-3)
+searched-spec = tie.close (tie.spec returns returns-2)
