@@ -1,4 +1,1 @@
-pub mod First
-pub mod Twice
-pub mod Around
 pub mod Joined

@@ -1,4 +1,1 @@
-pub mod Lines
-pub mod Commands
-pub mod Letters
 pub mod Spells

@@ -1,34 +1,33 @@
 -- One command, written: the answer of each manner, and what a word asks.
-use Prim.Native.Nat.{ℕ, _+_, _*_, _-_, _≤_, _<_}
+use Prim.Native.Nat.{ℕ, _-_, _≤_, _<_}
 use native.Mathlib.Omega.{arith}
 use mathlib.Core.List.{List, [], _∷_, _++_}
-use mathlib.Core.Path.{_≡_, sym, ap, subst, _∙_}
+use mathlib.Core.Path.{_≡_, sym, subst, _∙_}
 use borrow.Author.Needs.{needs}
-use Rattle.rules.specs.Bytes.{origin}
 use Rattle.laws.proofs.Cases.{on}
 use Rattle.scan_command.specs.declared.Command.{Command}
 use Rattle.scan_command.specs.declared.Command.the-variants as C
 use Rattle.read_model.specs.declared.Environment.{Environment}
-use Rattle.read_model.specs.declared.Word.{Word}
 use Rattle.read_model.specs.declared.Did.{Did}
 use Rattle.read_model.specs.declared.State.{State}
 use Rattle.read_model.specs.Environment.{onPage, onPageOr}
-use Rattle.read_model.specs.Words.{wordHere, wordEnd, wordOn}
+use Rattle.read_model.specs.Words.{wordEnd, wordOn}
 use Rattle.read_model.specs.Turns.{blockNow, didAt}
 use Rattle.read_model.specs.Fits.{CommandIn}
-use Rattle.read_effects.specs.Bounds.{Fits, Small, Tracked}
-use Rattle.read_effects.proofs.Arms.{fits-here, word-place}
-use Rattle.read_effects.proofs.Spelling.{done-ends}
+use Rattle.read_environment.specs.Bounds.{Fits}
+use Rattle.read_word.specs.Bounds.{Tracked}
+use Rattle.read_environment.proofs.Answers.{fits-here}
+use Rattle.read_word.proofs.Spelling.{word-place, done-ends}
 use Rattle.read_turn.specs.Ready.{Ready}
 use Rattle.read_turn.proofs.Turning.{here-some}
 use Rattle.respell_model.specs.declared.Manner.{Manner}
 use Rattle.respell_model.specs.declared.Manner.the-variants as M
-use Rattle.respell_model.specs.declared.Mark.{Mark}
 use Rattle.respell_model.specs.Sheet.{putAll}
 use Rattle.respell_model.specs.Lines.{lineOf}
-use Rattle.respell_model.specs.Command.{mannerOf, wordLines, wordPenH, wordPenV, wordFor, written, penH, penV, spelledAt}
-use Rattle.respell_bytes.proofs.Putting.{sheet, put-kept, all-kept}
-use Rattle.respell_command.proofs.Lines.{put-nothing}
+use Rattle.respell_model.specs.Command.{mannerOf, wordFor, written, penH, penV, spelledAt}
+use Rattle.respell_bytes.proofs.Putting.{sheet, all-kept}
+use Rattle.respell_arguments.proofs.Behind.{put-nothing}
+use Rattle.respell_glyph.proofs.Glyphs.{moves-then}
 
 -- ---- the manners
 
@@ -101,44 +100,19 @@ module _ (n : ℕ) (st : State) (y : Ready n st) where
   unit-most = y .unit-most
 
   module _ (c : Command) (i : CommandIn (st .at) n c) (k : Manner) (t p q : ℕ) (e : k ≡ mannerOf c) (f : k ≡ M.Lettered t p q) where
-    tracked : Tracked t p q
-    tracked =
+    pub word-tracked : Tracked t p q
+    word-tracked =
         let w : IsWord c t p q = is-word t p q c (sym e ∙ f) in
         word-place (st .at) n c i (y .most) t p q (w .next) (w .is)
 
-    pub word-track : t < 2 * origin
-    word-track = tracked .near
-
-    pub word-from : p ≤ q
-    word-from = tracked .from
-
-    pub word-room : p + (q - p) ≤ 16777216
-    word-room = omega (arith, tracked .from, tracked .most)
-
-pub block-small : (ws : List ℕ) (e : Environment) (b : ℕ) → Small ws → b ≡ blockNow ws e → b ≤ 100001
-block-small ws e b m g = rw g (m .each (e .font - 1))
-
-module _ (s ws : List ℕ) (st : State) (c : Command) (k : Manner) (t p q b : ℕ) (w : Word) (e : k ≡ mannerOf c) (f : k ≡ M.Lettered t p q) (g : b ≡ blockNow ws (st .env)) (l : w ≡ wordHere (st .env) (st .unitwidth) t (q - p) p b) where
-  here : w ≡ wordFor ws (st .unitwidth) (st .env) t p q
-  here = l ∙ ap (λ (x : ℕ). wordHere (st .env) (st .unitwidth) t (q - p) p x) g
-
-  pub word-ends : didAt s ws (st .unitwidth) (st .env) (st .at) c .refusal ≡ 0 → 0 < wordEnd (w .left) s ws w
+module _ (s ws : List ℕ) (st : State) (c : Command) (k : Manner) (t p q : ℕ) (e : k ≡ mannerOf c) (f : k ≡ M.Lettered t p q) where
+  pub word-ends : didAt s ws (st .unitwidth) (st .env) (st .at) c .refusal ≡ 0 → 0 < wordEnd (q - p) s ws (wordFor ws (st .unitwidth) (st .env) t p q)
   word-ends r =
       let x : IsWord c t p q = is-word t p q c (sym e ∙ f) in
       let d : didAt s ws (st .unitwidth) (st .env) (st .at) (C.Word t p q (x .next)) .refusal ≡ 0 = subst (λ (j : Command). didAt s ws (st .unitwidth) (st .env) (st .at) j .refusal ≡ 0) (x .is) r in
-      rw here
-      (done-ends s ws (st .env) (st .unitwidth) t (q - p) p (blockNow ws (st .env))
-      (page-done (st .env) (wordOn s ws (st .env) (st .unitwidth) t (q - p) p (blockNow ws (st .env))) d))
+      done-ends s ws (st .env) (st .unitwidth) t (q - p) p (blockNow ws (st .env))
+      (page-done (st .env) (wordOn s ws (st .env) (st .unitwidth) t (q - p) p (blockNow ws (st .env))) d)
 
-  module _ (m n : Mark) (h v : ℕ) where
-    pub word-sheet : (o o₂ : List ℕ) → sheet o₂ (n .at) ≡ putAll (wordLines (w .left) s ws (m .h) (m .v) w) (sheet o (m .at)) → sheet o₂ (n .at) ≡ putAll (spelledAt s ws (st .unitwidth) (st .env) (st .at) h v (m .h) (m .v) c) (sheet o (m .at))
-    unfolding spelledAt
-    word-sheet o o₂ r = rw (← e, f) (rw here at r)
+pub ruleset anchoring = (moves-then, all-kept, needs)
 
-    pub word-across : n .h ≡ wordPenH (w .left) s ws (m .h) w → n .h ≡ penH s ws (st .unitwidth) (st .env) h (m .h) (mannerOf c)
-    word-across r = rw (← e, f) (rw here at r)
-
-    pub word-down : n .v ≡ wordPenV (w .left) (m .v) w → n .v ≡ penV ws (st .unitwidth) (st .env) v (m .v) (mannerOf c)
-    word-down r = rw (← e, f) (rw here at r)
-
-pub ruleset spelling = (by-written, by-across, by-down, ready-here, ready-most, ready-fits, unit-some, unit-most, word-track, word-from, word-room, block-small, word-ends, word-sheet, word-across, word-down, put-nothing, put-kept, all-kept, needs)
+pub ruleset spelling = (by-written, by-across, by-down, ready-here, ready-most, ready-fits, unit-some, unit-most, word-tracked, word-ends, put-nothing, all-kept, needs)

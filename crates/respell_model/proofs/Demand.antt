@@ -19,7 +19,7 @@ use Rattle.rules.specs.State.{Env, Glyph, Item}
 use Rattle.rules.specs.Record.{GlyphRow, ItemRow, Answer, refuse, answer, shown, recordOf, lettersOf, entryOf, colourOf, over}
 use Rattle.rules.specs.Widths.{Widths, sound, widthList}
 use Rattle.rules.specs.Answers.{streamMost, read, isAccepted, roomFor, readInto, readingOf, recordsOver, entriesOver, Spelling, notSpelled, spelled, isOver, respell, spellingIn, respellInto, respellingOf, bufferOver}
-use Rattle.laws.proofs.Cases.{on, no}
+use Rattle.laws.proofs.Cases.{on, no, take-front, drop-front}
 use Rattle.laws_scan.proofs.Names.{AllRows, RowIn, RowsOf, read-stands}
 use Rattle.demands.specs.Statements.{Accepted, SameReading, ReadAgain, houseText}
 use Rattle.demands.proofs.Theorems.{roundTrip, fixedPoint, roomy, oneSpelling, limits-hold}
@@ -28,14 +28,6 @@ use Rattle.read_model.proofs.Passes.{length-map}
 use Rattle.respell_model.specs.Demand.{ReadCall, SpellCall, Gives, GivesOne, RespellLeavesAlone, LeavesRows, RespellShort, TooLong, RespellNoRoom, RespellLargeEnough, SeenGlyph, seenGlyph, SeenEntry, seenEntry, ReadsSame, SpellingReadsSame, RewritingChangesNothing}
 
 -- ---- what is in front of what was there
-
-take-front {ℓ} : {A : Type ℓ} (xs ys : List A) → take (length xs) (xs ++ ys) ≡ xs
-take-front [] ys = refl
-take-front (x ∷ xs) ys = ap (_∷_ x) (take-front xs ys)
-
-drop-front {ℓ} : {A : Type ℓ} (xs ys : List A) → drop (length xs) (xs ++ ys) ≡ ys
-drop-front [] ys = refl
-drop-front (x ∷ xs) ys = drop-front xs ys
 
 take-over {ℓ} : {A : Type ℓ} (n : ℕ) (new old l : List A) → n ≡ length new → l ≡ over new old → take n l ≡ new
 take-over n new old l h e = ap₂ (λ (i : ℕ) (k : List _). take i k) h e ∙ take-front new (drop (length new) old)

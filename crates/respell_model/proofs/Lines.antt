@@ -27,11 +27,13 @@ use Rattle.laws_print.proofs.Back.{AllNear, within-all, upTo-near}
 use Rattle.laws_print.proofs.Decimals.{within-bounds, within-near, near-bounds}
 use Rattle.scan_command.specs.View.{part, actOf}
 use Rattle.scan_command.proofs.Shift.{shifted, integers-shift, many-shift}
-use Rattle.scan_lex.specs.declared.One.the-variants as A
-use Rattle.scan_lex.specs.At.{runEnd, cut, integerAt, oneAt}
-use Rattle.scan_lex.specs.Parts.{presentAt}
-use Rattle.scan_lex.proofs.Chains.{behind, ints, thenAt, ints-more, one-is}
-use Rattle.scan_lex.proofs.Pairs.{many, many-none, many-more}
+use Rattle.scan_arguments.specs.declared.One.the-variants as A
+use Rattle.scan_lex.specs.At.{runEnd}
+use Rattle.scan_integer.specs.At.{cut, integerAt}
+use Rattle.scan_arguments.specs.At.{oneAt}
+use Rattle.scan_arguments.specs.Parts.{presentAt}
+use Rattle.scan_arguments.proofs.Chains.{behind, ints, thenAt, ints-more, one-is}
+use Rattle.scan_arguments.proofs.Pairs.{many, many-none, many-more}
 use Rattle.respell_model.proofs.Sheets.{signed-near}
 use Rattle.respell_model.specs.Sheet.{small}
 use Rattle.respell_model.specs.Lines.{signedArg, plainArg, argsFrom, partCount, partArgs, byteOf, behindLetter, behindWord, textAt, rawArg, lineOf}

@@ -6,8 +6,7 @@ use mathlib.Core.List.{List, [], _∷_, _++_}
 use mathlib.Core.Logic.{inl, inr}
 use mathlib.Core.Path.{_≡_, refl, sym, ap, _∙_}
 use lib.Dec.{eqb}
-use lib.ListN.{length, take, drop, getD, length-append}
-use lib.Seq.{drop-drop}
+use lib.ListN.{length, drop, getD}
 use borrow.Author.Tests.{eq-eqb, ne-eqb}
 use Rattle.rules.specs.declared.Record.{Record}
 use Rattle.rules.specs.declared.Entry.{Entry}
@@ -16,27 +15,23 @@ use Rattle.rules.specs.Act.{Cmd, just, word, pair}
 use Rattle.rules.specs.Scan.{Scan, got, bad, command, bare}
 use Rattle.rules.specs.Widths.{Widths}
 use Rattle.rules.specs.State.{Spot, Env, Step, refused, went, acts, perform}
-use Rattle.rules.specs.Record.{GlyphRow, ItemRow, Answer, refuse, answer, glyphRows, itemRows, afterRows, goOn, follow, recordOf, entryOf}
+use Rattle.rules.specs.Record.{GlyphRow, ItemRow, Answer, refuse, answer, glyphRows, itemRows, afterRows, follow}
 use Rattle.rules.specs.House.{house, played, spellAll}
 use Rattle.scan_command.specs.declared.Command.{Command}
-use Rattle.scan_command.specs.View.{cmdOf, commandAt}
+use Rattle.scan_command.specs.View.{commandAt}
 use Rattle.laws.proofs.Cases.{on, if-both}
-use Rattle.laws.proofs.Good.{GoodCmd}
-use Rattle.laws_scan.proofs.Fair.{command-good}
-use Rattle.laws_scan.proofs.Bounds.{GotIn, command-in, textOf}
-use Rattle.laws_scan.proofs.Walk.{from, cons-at, comment-in, got-in, from-end, from-white, from-comment, from-bad, from-got}
+use Rattle.laws_scan.proofs.Walk.{from, comment-in, from-end, from-white, from-comment, from-bad, from-got}
 use Rattle.read_model.specs.declared.Environment.{Environment}
 use Rattle.read_model.specs.declared.Did.{Did}
 use Rattle.read_model.specs.declared.State.{State}
+use Rattle.read_model.specs.declared.Turned.{Turned}
 use Rattle.read_model.specs.Environment.{envOf}
-use Rattle.read_model.specs.Turns.{didAt, scratchAfter, goneTo, doneOf, skipped, turnOn, turnOf, scratchOf}
+use Rattle.read_model.specs.Turns.{goneTo, skipped, turnOn, turnOf, scratchOf}
 use Rattle.read_model.specs.Passes as R
-use Rattle.read_model.proofs.Acts.{Agrees, recordsIn, entriesIn}
+use Rattle.read_model.proofs.Acts.{Agrees}
 use Rattle.read_model.proofs.Commands.{mountsAfterCmd}
-use Rattle.read_model.proofs.Live.{Live, did-agrees, live-next}
-use Rattle.read_model.proofs.Few.{Few, few, next-is}
-use Rattle.read_model.proofs.Rows.{emitted-turns}
-use Rattle.read_model.proofs.Passes.{Going, Room, length-map, after-none}
+use Rattle.read_model.proofs.Live.{Live, did-agrees}
+use Rattle.read_model.proofs.Passes.{Going, Room, room-next, after-none, readsAt, commandHere, didHere, Here, here-is, Went, went-here}
 use Rattle.respell_model.specs.declared.Mark.{Mark}
 use Rattle.respell_model.specs.Sheet.{Sheet, putAll}
 use Rattle.respell_model.specs.Command.{mannerOf, penH, penV, spelledAt}
@@ -118,22 +113,6 @@ module _ (find : List ℕ → ℕ) (s : List ℕ) where
       let more : length (respellPassFor f find s (respellStepOf find s p) .bytes) ≡ length (respellStepOf find s p .bytes) = pass-length f (respellStepOf find s p) in
       on (eqb (p .state .left) 0) (λ e. rw e refl) (λ e. rw e (more ∙ bytes-length s (p .scratch) (p .state) (p .bytes) (p .mark)))
 
--- ---- room
-
-module _ (n : ℕ) (rs : List GlyphRow) (xs : List ItemRow) where
-  room-now : (r : Answer) (st : State) → st .at + length rs ≤ n → st .at + length xs ≤ n → Room n (afterRows rs xs r) st
-      → (st .records + length rs ≤ st .rmax) × (st .entries + length xs ≤ st .emax)
-  room-now r st a b (inl h) = (omega (arith, h .0, h .2), omega (arith, h .1, h .3))
-  room-now (refuse k o) st a b (inr h) = absurd h
-  room-now (answer rs′ xs′ d) st a b (inr h) = (omega (arith, h .0, length-append rs rs′), omega (arith, h .1, length-append xs xs′))
-
-  -- at the place to, with the numbers i and j of records and entries
-  room-next : (r : Answer) (st : State) (to i j : ℕ) (e : Environment) → i ≡ st .records + length rs → j ≡ st .entries + length xs → st .at + length rs ≤ to → st .at + length xs ≤ to
-      → Room n (afterRows rs xs r) st → Room n r (goneTo n st to i j e)
-  room-next r st to i j e t u a b (inl h) = inl (h .0, h .1, omega (arith, t, h .2), omega (arith, u, h .3))
-  room-next (refuse k o) st to i j e t u a b (inr h) = absurd h
-  room-next (answer rs′ xs′ d) st to i j e t u a b (inr h) = inr (omega (arith, t, h .0, length-append rs rs′), omega (arith, u, h .1, length-append xs xs′))
-
 -- ---- a command of which nothing is refused, on to the place to
 
 module _ (s ws : List ℕ) (st : State) (out : List ℕ) (m : Mark) (c : Command) (n to i j : ℕ) (x : Environment) (z : st .refusal ≡ 0) where
@@ -162,7 +141,7 @@ penOf m = record { h = m .h; v = m .v }
 
 module _ (w : Widths) (find : List ℕ → ℕ) (s : List ℕ) (y : (i : ℕ) → getD s i 0 < 256) where
   abbrev readsFrom : List (List ℕ) → State → Answer
-  readsFrom ms st = follow w (envOf (st .env) ms) (from s (st .at))
+  readsFrom ms st = readsAt w s ms st
 
   -- the house spelling of what is still to come
   abbrev spellsFrom : List (List ℕ) → State → Mark → List ℕ
@@ -211,7 +190,7 @@ module _ (w : Widths) (find : List ℕ → ℕ) (s : List ℕ) (y : (i : ℕ) �
         (rw (t, k) v)
         (rw t (omega (arith, g .left)))
         (rw t reads)
-        (rw t (room-next (length s) [] [] (follow w (envOf (p .state .env) ms) (from s to)) (p .state) to (p .state .records) (p .state .entries) (p .state .env) (omega arith) (omega arith) (omega arith) (omega arith) (rw reads at r)))
+        (rw t (room-next (length s) [] [] (follow w (envOf (p .state .env) ms) (from s to)) (p .state) (skipped (length s) (p .state) to .state) (omega arith) (omega arith) refl refl (omega arith) (omega arith) (rw reads at r)))
         ok
         (rw (i, j))
         (rw (t, j, e))
@@ -233,14 +212,8 @@ module _ (w : Widths) (find : List ℕ → ℕ) (s : List ℕ) (y : (i : ℕ) �
       refuses n j q = absurd (rw (from-bad s (p .state .at) h e k n j q) at ok)
 
       module _ (c : Cmd) (a l′ : ℕ) (q : command (getD s (p .state .at) 0) (drop (p .state .at + 1) s) ≡ got c a l′) where
-        good : GoodCmd c
-        good = rw q at (command-good (getD s (p .state .at) 0) (drop (p .state .at + 1) s))
-
-        inside : GotIn (getD s (p .state .at) 0 ∷ drop (p .state .at + 1) s) c a l′
-        inside = rw q at (command-in (getD s (p .state .at) 0) (drop (p .state .at + 1) s))
-
-        stands : take (length (textOf c)) (drop (p .state .at + a) s) ≡ textOf c
-        stands = rw (← drop-drop a (p .state .at) s, cons-at s (p .state .at) h) (inside .stands)
+        at-here : Here w find s ms (p .scratch) (p .state) c a l′
+        at-here = here-is w find s ms (p .scratch) (p .state) c a l′ h e k q
 
         line-is : LineIs s (p .state .at) a l′ c
         line-is = go c q
@@ -252,37 +225,10 @@ module _ (w : Widths) (find : List ℕ → ℕ) (s : List ℕ) (y : (i : ℕ) �
 
         -- the command, and what was done
         abbrev here : Command
-        here = cmdOf (p .state .at + a) (p .state .at + l′) c
+        here = commandHere (p .state) c a l′
 
-        did : Did
-        did = didAt s (p .scratch) (p .state .unitwidth) (p .state .env) (p .state .at) here
-
-        turned-is : turnOn s (p .scratch) (p .state) here ≡ doneOf (length s) (p .state) (p .state .at + l′) did
-        unfolding did
-        turned-is = ap (λ (i : ℕ). doneOf (length s) (p .state) i did) (next-is (p .state .at + a) (p .state .at + l′) c)
-
-        command-is : commandAt s (p .state .at) ≡ here
-        unfolding commandAt
-        command-is = rw q
-
-        turn-is : turnOf s (p .scratch) (p .state) ≡ turnOn s (p .scratch) (p .state) here
-        unfolding turnOf
-        turn-is = rw (e, k, command-is)
-
-        scratch-is : scratchOf find s (p .scratch) (p .state) ≡ scratchAfter find s (p .scratch) (p .state .env) here
-        unfolding scratchOf
-        scratch-is = rw (e, k, command-is)
-
-        follow-is : readsFrom ms (p .state) ≡ goOn (p .state .at) (p .state .at + a) l′ (λ d. follow w d (from s (p .state .at + l′))) (perform (envOf (p .state .env) ms) (acts w (envOf (p .state .env) ms) c))
-        unfolding follow
-        follow-is = rw (from-got s (p .state .at) h e k c a l′ q)
-
-        reaches : (1 ≤ l′) × (p .state .at + l′ ≤ length s) × (a ≤ l′)
-        reaches = got-in s (p .state .at) h c a l′ q
-
-        fewer : Few s (p .scratch) l′ (reaches .0) did
-        unfolding did
-        fewer = few s (p .scratch) l′ (reaches .0) (p .state .unitwidth) (p .state .env) (p .state .at) (p .state .at + a) (p .state .at + l′) c (omega (arith, inside .name))
+        abbrev did : Did
+        did = didHere s (p .scratch) (p .state) c a l′
 
         -- what is written
         text : List ℕ
@@ -294,16 +240,16 @@ module _ (w : Widths) (find : List ℕ → ℕ) (s : List ℕ) (y : (i : ℕ) �
         module _ (i j : ℕ) (t : turnOn s (p .scratch) (p .state) here .state ≡ goneTo (length s) (p .state) (p .state .at + l′) i j (did .env)) where
           bytes-are : bytesOf s (p .scratch) (p .state) (p .bytes) (p .mark) ≡ putAll text (sheetAt (p .bytes) (p .mark)) .bytes
           unfolding bytesOf text
-          bytes-are = rw (e, k, command-is, t) (ap (λ (d : Sheet). d .bytes) (sheet-on s (p .scratch) (p .state) (p .bytes) (p .mark) here (length s) (p .state .at + l′) i j (did .env) (g .clear)))
+          bytes-are = rw (e, k, at-here .found, t) (ap (λ (d : Sheet). d .bytes) (sheet-on s (p .scratch) (p .state) (p .bytes) (p .mark) here (length s) (p .state .at + l′) i j (did .env) (g .clear)))
 
           mark-is : markOf s (p .scratch) (p .state) (p .bytes) (p .mark) ≡ record { at = putAll text (sheetAt (p .bytes) (p .mark)) .at; h = pen .h; v = pen .v }
           unfolding markOf text
-          mark-is = rw (e, k, command-is, t) (mark-on s (p .scratch) (p .state) (p .bytes) (p .mark) here (length s) (p .state .at + l′) i j (did .env) (g .clear))
+          mark-is = rw (e, k, at-here .found, t) (mark-on s (p .scratch) (p .state) (p .bytes) (p .mark) here (length s) (p .state .at + l′) i j (did .env) (g .clear))
 
         goes-on : (x : Step) → perform (envOf (p .state .env) ms) (acts w (envOf (p .state .env) ms) c) ≡ x → Agrees s (p .scratch) (mountsAfterCmd c ms) (p .state .at) (p .state .at + a) l′ x did
             → Written ms p (respellPassFor (suc f) find s p)
         unfolding text
-        goes-on (refused n) z t = absurd (rw (follow-is, z) at ok)
+        goes-on (refused n) z t = absurd (rw (at-here .follows, z) at ok)
         goes-on (went d gs ys) z t =
             let at : ℕ = p .state .at + l′ in
             let rs : List GlyphRow = glyphRows (p .state .at + a) gs in
@@ -311,36 +257,27 @@ module _ (w : Widths) (find : List ℕ → ℕ) (s : List ℕ) (y : (i : ℕ) �
             let m : List (List ℕ) = mountsAfterCmd c ms in
             let rest : Answer = follow w (envOf (did .env) m) (from s at) in
             let cs : List Cmd = bare (from s at) in
-            let n₁ : length (recordsIn s (p .scratch) (did .emitted)) ≡ length rs = sym (ap length (t .2)) ∙ length-map recordOf rs in
-            let n₂ : length (entriesIn (did .emitted)) ≡ length xs = sym (ap length (t .3)) ∙ length-map entryOf xs in
-            let f₁ : length rs ≤ l′ = omega (arith, n₁, fewer .0) in
-            let f₂ : length xs ≤ l′ = omega (arith, n₂, fewer .1) in
-            let reads : readsFrom ms (p .state) ≡ afterRows rs xs rest = follow-is ∙ rw z (ap (λ (i : Env). afterRows rs xs (follow w i (from s at))) (sym (t .1))) in
-            let roomy : Room (length s) (afterRows rs xs rest) (p .state) = rw reads at r in
-            let room : (p .state .records + length rs ≤ p .state .rmax) × (p .state .entries + length xs ≤ p .state .emax) =
-            room-now (length s) rs xs rest (p .state) (omega (arith, reaches)) (omega (arith, reaches)) roomy in
-            let turned : turnOn s (p .scratch) (p .state) here .state ≡ goneTo (length s) (p .state) at (p .state .records + length rs) (p .state .entries + length xs) (did .env) =
-            rw (turned-is, t .0, emitted-turns s (p .scratch) (length s) (p .state) at (did .env) (did .emitted) (rw n₁ (room .0)) (rw n₂ (room .1)) .state, n₁, n₂) in
-            let turn : turnOf s (p .scratch) (p .state) .state ≡ goneTo (length s) (p .state) at (p .state .records + length rs) (p .state .entries + length xs) (did .env) = rw turn-is turned in
-            let live : Live w find m (scratchOf find s (p .scratch) (p .state)) (p .state .unitwidth) (did .env) =
-            rw scratch-is (live-next w find s ms (p .scratch) (p .state .unitwidth) (p .state .env) v (p .state .at) l′ a c good stands d gs ys did z (t .1)) in
+            let i : ℕ = p .state .records + length rs in
+            let j : ℕ = p .state .entries + length xs in
+            let x : Went w find s ms (p .scratch) (p .state) c a l′ rs xs = went-here w find s ms (p .scratch) (p .state) c a l′ at-here v r d gs ys z t in
+            let turned : turnOn s (p .scratch) (p .state) here .state ≡ goneTo (length s) (p .state) at i j (did .env) = ap (λ (y : Turned). y .state) (at-here .turned ∙ sym (at-here .turn)) ∙ x .state in
             let spells : spellsFrom ms (p .state) (p .mark) ≡ text ++ spellAll (house (envOf (did .env) m) pen (played w (envOf (did .env) m) cs)) =
             rw (from-got s (p .state .at) h e k c a l′ q)
-            (command-on w find s y ms (p .scratch) (p .state .unitwidth) (p .state .env) v (p .state .at) l′ a c good stands line-is d gs ys did z (t .1) (penOf (p .mark)) cs) in
+            (command-on w find s y ms (p .scratch) (p .state .unitwidth) (p .state .env) v (p .state .at) l′ a c (at-here .good) (at-here .stands) line-is d gs ys did z (t .1) (penOf (p .mark)) cs) in
             onward f more ms m p (respellStepOf find s p) rs xs text
-            (rw turn (record { within = reaches .1; left = refl; clear = g .clear }))
-            (rw turn live)
-            (rw turn (omega (arith, g .left, reaches)))
-            (rw turn reads)
-            (rw turn (room-next (length s) rs xs rest (p .state) at (p .state .records + length rs) (p .state .entries + length xs) (did .env) refl refl (omega arith) (omega arith) roomy))
+            (rw (x .state) (record { within = at-here .within; left = refl; clear = g .clear }))
+            (rw (x .state) (x .live))
+            (rw (x .state) (omega (arith, g .left, at-here .some, at-here .within)))
+            (rw (x .state) (x .reads))
+            (rw (x .state) (room-next (length s) rs xs rest (p .state) (goneTo (length s) (p .state) at i j (did .env)) refl refl refl refl (omega (arith, x .few-records)) (omega (arith, x .few-entries)) (rw (x .reads) at r)))
             ok
-            (rw (bytes-are (p .state .records + length rs) (p .state .entries + length xs) turned, mark-is (p .state .records + length rs) (p .state .entries + length xs) turned))
-            (rw (turn, mark-is (p .state .records + length rs) (p .state .entries + length xs) turned) spells)
+            (rw (bytes-are i j turned, mark-is i j turned))
+            (rw (x .state, mark-is i j turned) spells)
             (respellPassFor (suc f) find s p) one-turn
 
         one-command : Written ms p (respellPassFor (suc f) find s p)
-        unfolding did
-        one-command = goes-on (perform (envOf (p .state .env) ms) (acts w (envOf (p .state .env) ms) c)) refl (did-agrees w find s y ms (p .scratch) (p .state .unitwidth) (p .state .env) v (p .state .at) l′ a c good stands)
+        unfolding didHere
+        one-command = goes-on (perform (envOf (p .state .env) ms) (acts w (envOf (p .state .env) ms) c)) refl (did-agrees w find s y ms (p .scratch) (p .state .unitwidth) (p .state .env) v (p .state .at) l′ a c (at-here .good) (at-here .stands))
 
       commands-on : (x : Scan) → command (getD s (p .state .at) 0) (drop (p .state .at + 1) s) ≡ x → Written ms p (respellPassFor (suc f) find s p)
       commands-on (bad n j) q = refuses n j q

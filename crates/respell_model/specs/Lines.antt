@@ -8,9 +8,10 @@ use Rattle.rules.specs.Bytes.{if_then_else_, bytes, is, isSpace, isNotWhite}
 use Rattle.rules.specs.House.{decimal}
 use Rattle.scan_command.specs.declared.Command.{Command}
 use Rattle.scan_command.specs.declared.Command.the-variants as C
-use Rattle.scan_lex.specs.declared.One.{One}
-use Rattle.scan_lex.specs.declared.One.the-variants as A
-use Rattle.scan_lex.specs.At.{runEnd, oneAt}
+use Rattle.scan_arguments.specs.declared.One.{One}
+use Rattle.scan_arguments.specs.declared.One.the-variants as A
+use Rattle.scan_lex.specs.At.{runEnd}
+use Rattle.scan_arguments.specs.At.{oneAt}
 use Rattle.respell_model.specs.Sheet.{small, signedSmall}
 
 -- ---- arguments: "one space before each argument, integers shortest"

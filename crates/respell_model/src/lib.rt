@@ -1,6 +1,6 @@
 // The rewriter: one pass over the stream, run twice, first to measure the spelling and then to write it. Here stand its types; what
 // is written for a command, and what a turn and a pass do, is defined in specs/, and proofs/ shows that it is the house spelling. The
-// code stands in the crates above: written, spelled, respelling, speller.
+// code stands in the crates above, from respell_bytes to respell.
 use read_model::State;
 
 // Where the writing stands: the place of the next byte, and where a reader of the spelling so far is, moved up.

@@ -1,2 +1,2 @@
-pub mod Turning
+pub mod Steps
 pub mod Known

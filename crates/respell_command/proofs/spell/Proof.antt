@@ -20,14 +20,14 @@ put-anchored-requires-2 c κs = search spelling
 enum-told-3 : tie.Need-enum-told-3
 enum-told-3 c = search spelling
 
-put-line-requires : tie.Need-put-line-requires
-put-line-requires c κs = search spelling
+put-floating-requires : tie.Need-put-floating-requires
+put-floating-requires c κs = search spelling
 
 enum-told-4 : tie.Need-enum-told-4
 enum-told-4 c = search spelling
 
-put-line-requires-2 : tie.Need-put-line-requires-2
-put-line-requires-2 c κs = search spelling
+put-floating-requires-2 : tie.Need-put-floating-requires-2
+put-floating-requires-2 c κs = search spelling
 
 enum-told-5 : tie.Need-enum-told-5
 enum-told-5 c = search spelling
@@ -35,17 +35,8 @@ enum-told-5 c = search spelling
 enum-known-track : tie.Need-enum-known-track
 enum-known-track c = search spelling
 
-block-now-requires : tie.Need-block-now-requires
-block-now-requires c κs = search spelling
-
-sub-word-here : tie.Need-sub-word-here
-sub-word-here c = search spelling
-
-word-here-requires : tie.Need-word-here-requires
-word-here-requires c κs = search spelling
-
-put-word-requires : tie.Need-put-word-requires
-put-word-requires c κs = search spelling
+put-word-from-requires : tie.Need-put-word-from-requires
+put-word-from-requires c κs = search spelling
 
 same-length : tie.Need-same-length
 same-length c = search spelling
@@ -90,15 +81,12 @@ spell-spec =
     enum-told-2
     put-anchored-requires-2
     enum-told-3
-    put-line-requires
+    put-floating-requires
     enum-told-4
-    put-line-requires-2
+    put-floating-requires-2
     enum-told-5
     enum-known-track
-    block-now-requires
-    sub-word-here
-    word-here-requires
-    put-word-requires
+    put-word-from-requires
     same-length
     returns
     same-length-2

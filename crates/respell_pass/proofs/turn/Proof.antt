@@ -1,4 +1,4 @@
-use Rattle.respell_pass.proofs.Turning.{stepping}
+use Rattle.respell_pass.proofs.Steps.{stepping}
 use Rattle.respell_pass.proofs.turn.Statement.{statement}
 use Rattle.respell_pass.proofs.turn.Tie as tie
 

@@ -1,0 +1,36 @@
+use Rattle.respell_control.proofs.Controls.{controls}
+use Rattle.respell_control.proofs.put_raw.Statement.{statement}
+use Rattle.respell_control.proofs.put_raw.Tie as tie
+
+byte-at-requires : tie.Need-byte-at-requires
+byte-at-requires c κs = search controls
+
+put-first-requires : tie.Need-put-first-requires
+put-first-requires c κs = search controls
+
+sub-put-part : tie.Need-sub-put-part
+sub-put-part c = search controls
+
+put-part-requires : tie.Need-put-part-requires
+put-part-requires c κs = search controls
+
+same-length : tie.Need-same-length
+same-length c = search controls
+
+returns : tie.Need-returns
+returns c = search controls
+
+returns-2 : tie.Need-returns-2
+returns-2 c = search controls
+
+pub put-raw-spec : {M : Type 1} → statement M
+put-raw-spec =
+    tie.close
+    (tie.spec
+    byte-at-requires
+    put-first-requires
+    sub-put-part
+    put-part-requires
+    same-length
+    returns
+    returns-2)
