@@ -4,8 +4,9 @@
  * The library is target/lib/libmrkvandel.a, for x86-64 and the System V calling convention. The script ./build makes it from four
  * static libraries, one for each function, which `rt staticlib` proves and writes. Proved is what the functions answer and leave in
  * the rows and the buffer; the compiler behind the proof, the way into C and this header are tested (routines/). The source of these
- * declarations is the src/lib.rt of crates/capi_read, capi_find, capi_respell and capi_judge and, for records, entries and colours,
- * of crates/rules. What the answers mean is said in full by the definitions in crates/rules/specs.
+ * declarations is the src/lib.rt of crates/capi_read, capi_find, capi_respell and capi_judge, for the answers that of
+ * crates/capi_answers, and for records, entries and colours that of crates/rules. What the answers mean is said in full by the
+ * definitions in crates/rules/specs.
  *
  * Of every function here:
  *   - An input, a row or the rewriter's buffer, which is a row of bytes, crosses as a pointer and the number of its items (bytes,

@@ -87,7 +87,7 @@ fn text_of(path: &str) -> String {
 
 /// The Rattle source of the exported functions, with their answers.
 fn exporting_source() -> String {
-    ["read", "find", "respell", "judge"]
+    ["answers", "read", "find", "respell", "judge"]
         .map(|name| text_of(&format!("crates/capi_{name}/src/lib.rt")))
         .concat()
 }

@@ -1,38 +1,10 @@
 // The finder as a C function: slices cross as a pointer and a length, the answer as a flat struct. The header is include/mrkvandel.h.
-use rules::Finding;
+use capi_answers::FindResult;
 use rules::Record;
 ghost use mathlib.Core.Path.{_≡_};
 ghost use lib.ListN.{length};
 ghost use Rattle.rules.specs.Answers.{findInto, findingOf, recordsFound, hitsOver};
-ghost use Rattle.capi_find.specs.Flat.{flatFinding};
-
-// The finder's answer. `refusal` is 0 where nothing is refused, else its number, with the offset; 32 bytes.
-#[repr(C)]
-pub struct FindResult {
-    pub offset: usize,
-    pub records: usize,
-    pub hits: usize,
-    pub refusal: u32,
-}
-
-fn flat_finding(f: Finding) -> FindResult
-    ensures { λ x. ⌜ x ≡ flatFinding f ⌝ }
-{
-    match f {
-        Finding::Accepted { records, hits } => FindResult {
-            offset: 0,
-            records,
-            hits,
-            refusal: 0,
-        },
-        Finding::Refused { number, offset } => FindResult {
-            offset,
-            records: 0,
-            hits: 0,
-            refusal: number,
-        },
-    }
-}
+ghost use Rattle.capi_answers.specs.Flat.{flatFinding};
 
 // The finder, `find::find`.
 #[no_mangle]
@@ -46,5 +18,5 @@ pub extern "C" fn mrkvandel_find(
     ensures { λ r. ⌜ (r ≡ flatFinding (findingOf (findInto (length (now (records .entry))) (length (now (hits .entry))) (now (stream .entry)) (now (widths .entry)) (now (query .entry))))) × (now (records .exit) ≡ recordsFound (now (records .entry)) (findInto (length (now (records .entry))) (length (now (hits .entry))) (now (stream .entry)) (now (widths .entry)) (now (query .entry)))) × (now (hits .exit) ≡ hitsOver (now (hits .entry)) (findInto (length (now (records .entry))) (length (now (hits .entry))) (now (stream .entry)) (now (widths .entry)) (now (query .entry)))) ⌝ }
 {
     let f = find::find(stream, widths, query, records, hits);
-    flat_finding(f)
+    capi_answers::flat_finding(f)
 }

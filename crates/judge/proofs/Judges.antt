@@ -8,29 +8,20 @@ use mathlib.Core.Path.{_≡_, _∙_}
 use lib.Dec.{eqb}
 use lib.ListN.{length}
 use borrow.Author.Needs.{needs}
-use borrow.Author.Tests.{eq-eqb, ne-eqb, ltb-true, ltb-false}
+use borrow.Author.Tests.{ne-eqb, ltb-true, ltb-false}
 use Rattle.rules.specs.declared.Judging.{Judging}
 use Rattle.rules.specs.declared.Judging.the-variants as J
 use Rattle.rules.specs.Answers.{streamMost, isOver, lengthOf, judge}
 use Rattle.laws.proofs.Cases.{on}
 use Rattle.read_model.proofs.Passes.{Refused}
 use Rattle.respell_model.specs.declared.Writing.{Writing}
-use Rattle.respell.specs.Respell.{passAt, Measured}
-use Rattle.respell.proofs.First.{textOf, Refuses, Accepts, first-says}
-use Rattle.judge.specs.Answer.{judgeAnswerOf}
+use Rattle.respell_twice.specs.Respell.{passAt, Measured}
+use Rattle.respell_twice.proofs.First.{textOf, Refuses, Accepts, first-says}
+use Rattle.judge_answer.specs.Answer.{judgeAnswerOf}
 
--- ---- the answer of each return
+-- ---- the answer
 
 module _ (w : Writing) where
-  pub answer-yes : w .state .refusal ≡ 0 → w .state .env .phase ≡ 4 → J.Accepted (w .state .records) (w .state .entries) (w .state .env .ordinal) (w .mark .at) ≡ judgeAnswerOf w
-  answer-yes h k = rw (eq-eqb (w .state .refusal) 0 h, eq-eqb (w .state .env .phase) 4 k)
-
-  pub answer-unended : w .state .refusal ≡ 0 → (w .state .env .phase ≡ 4 → ⊥) → J.Refused 11 (w .state .at) ≡ judgeAnswerOf w
-  answer-unended h k = rw (eq-eqb (w .state .refusal) 0 h, ne-eqb (w .state .env .phase) 4 k)
-
-  pub answer-no : (w .state .refusal ≡ 0 → ⊥) → J.Refused (w .state .refusal) (w .state .at) ≡ judgeAnswerOf w
-  answer-no h = rw (ne-eqb (w .state .refusal) 0 h)
-
   accepted-is : (r e p len : ℕ) → w .state .refusal ≡ 0 → eqb (w .state .env .phase) 4 ≡ true → w .state .records ≡ r → w .state .entries ≡ e → w .state .env .ordinal ≡ p → w .mark .at ≡ len
       → judgeAnswerOf w ≡ J.Accepted r e p len
   accepted-is r e p len clear stopped count number pages at = rw (clear, stopped, count, number, pages, at)
@@ -59,4 +50,4 @@ module _ (s list : List ℕ) (w : Writing) (ws : List ℕ) where
   pub judges : (r : Judging) → r ≡ judgeAnswerOf w → Measured s list w ws → r ≡ judge s list
   judges r e m = e ∙ says m (first-says s list (m .first) (m .scratch) (m .started) (m .buffer) (passAt w ws (m .left)) (m .runs) (m .bytes))
 
-pub ruleset judging = (answer-yes, answer-unended, answer-no, judges, needs)
+pub ruleset judging = (judges, needs)

@@ -38,23 +38,23 @@ use denote.Signature.{plain}
 use Rattle.rules.specs.declared.Record.{Record}
 use Rattle.rules.specs.declared.Finding.{Finding}
 use Rattle.rules.specs.Answers.{Found, findInto, findingOf, recordsFound, hitsOver}
-use Rattle.capi_find.specs.declared.FindResult.{FindResult}
-use Rattle.capi_find.specs.Flat.{flatFinding}
+use Rattle.capi_answers.specs.declared.FindResult.{FindResult}
+use Rattle.capi_answers.specs.Flat.{flatFinding}
 use Rattle.rules.proofs.Record as TG
 use Rattle.rules.proofs.Finding as TF
 use Rattle.rules.proofs.Finding.Laws as TF′
-use Rattle.capi_find.proofs.FindResult as TX
-use Rattle.capi_find.proofs.FindResult.Laws as TX′
+use Rattle.capi_answers.proofs.FindResult as TX
+use Rattle.capi_answers.proofs.FindResult.Laws as TX′
 use Rattle.rowkit.proofs.Rows.{refAt, asks}
 use Rattle.rowkit.proofs.Lends.{Goes-two, Comes-two, Left-two, lends-two}
 use Rattle.find.proofs.find as find-fn
 use Rattle.find.proofs.find.Symbol as find-def
 use Rattle.find.proofs.find.Symbol.{name as #find·find}
 use Rattle.find.proofs.find.Met as find-thm
-use Rattle.capi_find.proofs.flat_finding as flat-fn
-use Rattle.capi_find.proofs.flat_finding.Symbol as flat-def
-use Rattle.capi_find.proofs.flat_finding.Symbol.{name as #capi-find·flat-finding}
-use Rattle.capi_find.proofs.flat_finding.Met as flat-thm
+use Rattle.capi_answers.proofs.flat_finding as flat-fn
+use Rattle.capi_answers.proofs.flat_finding.Symbol as flat-def
+use Rattle.capi_answers.proofs.flat_finding.Symbol.{name as #capi-answers·flat-finding}
+use Rattle.capi_answers.proofs.flat_finding.Met as flat-thm
 use Rattle.capi_find.proofs.mrkvandel_find.Key.{name as #capi-find·mrkvandel-find}
 use Rattle.capi_find.proofs.mrkvandel_find as f
 use Rattle.capi_find.proofs.mrkvandel_find.Statement as stated
@@ -180,7 +180,7 @@ module _ {M : Type 1} (𝓤 : URA M) (H : Heap 𝓤) (A : Atoms 𝓤) (W : Given
       at-once ! $ show ! (Left-two 𝓤 H A W TG.the-row κ₃ q₃ γ₃ b₃ o₃ ys gv u32 κ₄ q₄ γ₄ b₄ o₄ hs hv (Finds 𝓤 H A mem run) to-find asked back done-finding ν δ ν′ δ′ u) (z .1 .1 .1 .0, z .1 .1 .1 .1 .0) $ says ! (len, len′, (r, (is, e))) $
       move ! (2 ∷ 0 ∷ []) $ join ! $ frame ! $ move ! (6 ∷ 4 ∷ []) $ join ! $ frame ! $ move ! (4 ∷ []) $ drop ! $ move ! (1 ∷ 0 ∷ []) $ join ! $ move ! (1 ∷ 0 ∷ []) $ join ! $ move ! (1 ∷ 0 ∷ []) $ join ! $ done !))))))
 
-  module _ (𝓣 : Tables 𝓤 H) (known-find : Triple 𝓤 (𝓣 .C #find·find) (Finds 𝓤 H A mem run)) (known-flat : Triple 𝓤 (𝓣 .C #capi-find·flat-finding) (Flats 𝓤 H A mem run)) (s-fits : length ss < 2 ^ 64) (l-fits : length ls < 2 ^ 64) (q-fits : length qs < 2 ^ 64) (g-room : Room TG.the-row (length ys)) (h-room : Room u32 (length hs)) where
+  module _ (𝓣 : Tables 𝓤 H) (known-find : Triple 𝓤 (𝓣 .C #find·find) (Finds 𝓤 H A mem run)) (known-flat : Triple 𝓤 (𝓣 .C #capi-answers·flat-finding) (Flats 𝓤 H A mem run)) (s-fits : length ss < 2 ^ 64) (l-fits : length ls < 2 ^ 64) (q-fits : length qs < 2 ^ 64) (g-room : Room TG.the-row (length ys)) (h-room : Room u32 (length hs)) where
     abbrev C : Calls 𝓤 H
     C = 𝓣 .C
 
@@ -223,7 +223,7 @@ module _ {M : Type 1} (𝓤 : URA M) (H : Heap 𝓤) (A : Atoms 𝓤) (W : Given
         move ! (30 ∷ 31 ∷ []) $ free1 ! $ move ! (28 ∷ 29 ∷ []) $ free1 ! $ move ! (26 ∷ 27 ∷ []) $ free1 ! $ move ! (24 ∷ 25 ∷ []) $ free1 ! $ move ! (22 ∷ 23 ∷ []) $ free1 ! $ move ! (20 ∷ 21 ∷ []) $ free1 ! $ move ! (18 ∷ 19 ∷ []) $ free1 ! $ move ! (16 ∷ 17 ∷ []) $ free1 ! $ move ! (14 ∷ 15 ∷ []) $ free1 ! $ move ! (12 ∷ 13 ∷ []) $ free1 ! $ move ! (10 ∷ 11 ∷ []) $ free1 ! $ free0 ! $
         by ! (exits x gs zs (e ∙ ap flatFinding (d .1 .1 .0), d .1 .1 .1, d .1 .1 .2) gl hl (answered x _ is))))))))))))))))
 
-module _ {M : Type 1} (𝓤 : URA M) (H : Heap 𝓤) (A : Atoms 𝓤) (W : Given 𝓤 H A) (mem : Memory → SProp 𝓤) (run : Routine → Fun 𝓤) (𝓣 : Tables 𝓤 H) (known-find : Triple 𝓤 (𝓣 .C #find·find) (Finds 𝓤 H A mem run)) (known-flat : Triple 𝓤 (𝓣 .C #capi-find·flat-finding) (Flats 𝓤 H A mem run)) where
+module _ {M : Type 1} (𝓤 : URA M) (H : Heap 𝓤) (A : Atoms 𝓤) (W : Given 𝓤 H A) (mem : Memory → SProp 𝓤) (run : Routine → Fun 𝓤) (𝓣 : Tables 𝓤 H) (known-find : Triple 𝓤 (𝓣 .C #find·find) (Finds 𝓤 H A mem run)) (known-flat : Triple 𝓤 (𝓣 .C #capi-answers·flat-finding) (Flats 𝓤 H A mem run)) where
   mrkvandel-find-walks : Walks 𝓤 H A f.ended stayed (WpFn 𝓤 H (𝓣 .C) (𝓣 .Λ) code.function) (f.clauses 𝓤 H A mem run)
   mrkvandel-find-walks = walked 𝓤 H A f.ended stayed (f.clauses 𝓤 H A mem run) (WpFn 𝓤 H (𝓣 .C) (𝓣 .Λ) code.function)
       (λ κs. (slice-vals, (slice-vals, (slice-vals, (slice-vals, (slice-vals, tt))))))
@@ -246,4 +246,4 @@ mrkvandel-find-spec 𝓤 H 𝓜 𝓖 𝓡 =
     (tables 𝓤 H 𝓜 𝓡 code.env .C) (tables 𝓤 H 𝓜 𝓡 code.env .Λ) #capi-find·mrkvandel-find code.function (code.unfolded 𝓤 H 𝓜 𝓡)
     (mrkvandel-find-meets 𝓤 H (𝓖 .A) (givenOf 𝓤 H 𝓜 𝓖) (𝓜 .mem) (𝓡 .run) (tablesOf 𝓤 H 𝓜 (tables 𝓤 H 𝓜 𝓡 code.env))
     (cited 𝓤 H (Finds 𝓤 H (𝓖 .A) (𝓜 .mem) (𝓡 .run)) 𝓜 𝓡 code.env #find·find find-def.routine code.calls-find·find (find-thm.met 𝓤 H 𝓜 𝓖 𝓡))
-    (cited 𝓤 H (Flats 𝓤 H (𝓖 .A) (𝓜 .mem) (𝓡 .run)) 𝓜 𝓡 code.env #capi-find·flat-finding flat-def.routine code.calls-capi-find·flat-finding (flat-thm.met 𝓤 H 𝓜 𝓖 𝓡)))
+    (cited 𝓤 H (Flats 𝓤 H (𝓖 .A) (𝓜 .mem) (𝓡 .run)) 𝓜 𝓡 code.env #capi-answers·flat-finding flat-def.routine code.calls-capi-answers·flat-finding (flat-thm.met 𝓤 H 𝓜 𝓖 𝓡)))

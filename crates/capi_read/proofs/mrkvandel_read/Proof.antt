@@ -39,24 +39,24 @@ use Rattle.rules.specs.declared.Entry.{Entry}
 use Rattle.rules.specs.declared.Reading.{Reading}
 use Rattle.rules.specs.Record.{Answer}
 use Rattle.rules.specs.Answers.{readInto, readingOf, recordsOver, entriesOver}
-use Rattle.capi_read.specs.declared.ReadResult.{ReadResult}
-use Rattle.capi_read.specs.Flat.{flatOf}
+use Rattle.capi_answers.specs.declared.ReadResult.{ReadResult}
+use Rattle.capi_answers.specs.Flat.{flatReading}
 use Rattle.rules.proofs.Record as TG
 use Rattle.rules.proofs.Entry as TE
 use Rattle.rules.proofs.Reading as TR
 use Rattle.rules.proofs.Reading.Laws as TR′
-use Rattle.capi_read.proofs.ReadResult as TF
-use Rattle.capi_read.proofs.ReadResult.Laws as TF′
+use Rattle.capi_answers.proofs.ReadResult as TF
+use Rattle.capi_answers.proofs.ReadResult.Laws as TF′
 use Rattle.rowkit.proofs.Rows.{refAt, asks}
 use Rattle.rowkit.proofs.Lends.{Goes-two, Comes-two, Left-two, lends-two}
 use Rattle.read.proofs.read as read-fn
 use Rattle.read.proofs.read.Symbol as read-def
 use Rattle.read.proofs.read.Symbol.{name as #read·read}
 use Rattle.read.proofs.read.Met as read-thm
-use Rattle.capi_read.proofs.flat as flat-fn
-use Rattle.capi_read.proofs.flat.Symbol as flat-def
-use Rattle.capi_read.proofs.flat.Symbol.{name as #capi-read·flat}
-use Rattle.capi_read.proofs.flat.Met as flat-thm
+use Rattle.capi_answers.proofs.flat_reading as flat-fn
+use Rattle.capi_answers.proofs.flat_reading.Symbol as flat-def
+use Rattle.capi_answers.proofs.flat_reading.Symbol.{name as #capi-answers·flat-reading}
+use Rattle.capi_answers.proofs.flat_reading.Met as flat-thm
 use Rattle.capi_read.proofs.mrkvandel_read.Key.{name as #capi-read·mrkvandel-read}
 use Rattle.capi_read.proofs.mrkvandel_read as f
 use Rattle.capi_read.proofs.mrkvandel_read.Statement as stated
@@ -127,7 +127,7 @@ module _ {M : Type 1} (𝓤 : URA M) (H : Heap 𝓤) (A : Atoms 𝓤) (W : Given
   abbrev answer : Answer
   answer = readInto (length ys) (length es) ss ls
 
-  exits : (x : ReadResult) (gs : List Record) (zs : List Entry) → (x ≡ flatOf (readingOf answer)) × (gs ≡ recordsOver ys answer) × (zs ≡ entriesOver es answer) → length gs ≡ length ys → length zs ≡ length es → Is TF.the-row x (xv x ∷ [])
+  exits : (x : ReadResult) (gs : List Record) (zs : List Entry) → (x ≡ flatReading (readingOf answer)) × (gs ≡ recordsOver ys answer) × (zs ≡ entriesOver es answer) → length gs ≡ length ys → length zs ≡ length es → Is TF.the-row x (xv x ∷ [])
       → ent 𝓤 (⋆ 𝓤 H A (Params gs zs [])) (Post (xv x))
   exits x gs zs e gl el is =
       qed W (Params gs zs []) ∵
@@ -182,7 +182,7 @@ module _ {M : Type 1} (𝓤 : URA M) (H : Heap 𝓤) (A : Atoms 𝓤) (W : Given
       at-once ! $ show ! (Left-two 𝓤 H A W TG.the-row κ₂ q₂ γ₂ b₂ o₂ ys gv TE.the-row κ₃ q₃ γ₃ b₃ o₃ es ev (Reads 𝓤 H A mem run) to-read asked back done-reading ν δ ν′ δ′ u) (z .1 .1 .0, z .1 .1 .1 .0) $ says ! (len, len′, (r, (is, e))) $
       move ! (2 ∷ 0 ∷ []) $ join ! $ frame ! $ move ! (5 ∷ 3 ∷ []) $ join ! $ frame ! $ move ! (3 ∷ []) $ drop ! $ move ! (1 ∷ 0 ∷ []) $ join ! $ move ! (1 ∷ 0 ∷ []) $ join ! $ done !))))))
 
-  module _ (𝓣 : Tables 𝓤 H) (known-read : Triple 𝓤 (𝓣 .C #read·read) (Reads 𝓤 H A mem run)) (known-flat : Triple 𝓤 (𝓣 .C #capi-read·flat) (Flats 𝓤 H A mem run)) (s-fits : length ss < 2 ^ 64) (l-fits : length ls < 2 ^ 64) (g-room : Room TG.the-row (length ys)) (e-room : Room TE.the-row (length es)) where
+  module _ (𝓣 : Tables 𝓤 H) (known-read : Triple 𝓤 (𝓣 .C #read·read) (Reads 𝓤 H A mem run)) (known-flat : Triple 𝓤 (𝓣 .C #capi-answers·flat-reading) (Flats 𝓤 H A mem run)) (s-fits : length ss < 2 ^ 64) (l-fits : length ls < 2 ^ 64) (g-room : Room TG.the-row (length ys)) (e-room : Room TE.the-row (length es)) where
     abbrev C : Calls 𝓤 H
     C = 𝓣 .C
 
@@ -217,15 +217,15 @@ module _ {M : Type 1} (𝓤 : URA M) (H : Heap 𝓤) (A : Atoms 𝓤) (W : Given
         move ! (4 ∷ []) $ use1 W (‵ (flft κ₀ q₀) ⊛ ‵ (flft κ₁ q₁) ⊛ ‵ ftrue) (id⊢ 𝓤 _) $ split ! $ move ! (1 ∷ []) $ split ! $ move ! (1 ∷ []) $ drop ! $ move ! (2 ∷ 3 ∷ 4 ∷ 5 ∷ 7 ∷ 1 ∷ 6 ∷ 0 ∷ []) $
         -- `flat`
         owned ! TR.the-row (Is TR.the-row) (LL.makes TR.the-type TR′.the-plain 𝓤 H A) (d .0) _ (told (d .0) _ (d .1 .0)) $ use1 W (raw (Flats 𝓤 H A mem run .pre (to-flat (d .0)))) (goes-flat (d .0)) $
-        asks 𝓤 H A W flat-fn.ended (flat-fn.clauses 𝓤 H A mem run) ! fm known-flat (to-flat (d .0)) (λ x. x ≡ flatOf (d .0)) (λ x ws. id⊢ 𝓤 _) (and-then ! (load ! (from ! (stop !)) (look ! 17 refl)) (no-more !)) (λ v x e.
+        asks 𝓤 H A W flat-fn.ended (flat-fn.clauses 𝓤 H A mem run) ! fm known-flat (to-flat (d .0)) (λ x. x ≡ flatReading (d .0)) (λ x ws. id⊢ 𝓤 _) (and-then ! (load ! (from ! (stop !)) (look ! 17 refl)) (no-more !)) (λ v x e.
         peeks ! TF.the-row (Is TF.the-row) (shows 𝓤 H A TF.the-row) x (v ∷ []) (λ is. land ! (from ! (stop !)) (init ! 28 refl (LL.lawful TF.the-type TF′.the-laws 𝓤 H A W .typed x _ is .0)) $
         rewrite ! 28 (λ (z : Val). ‵ (fat fullShare TF′.mir l₀ 0 z)) (ap only (LL.tells TF.the-type TF′.the-laws x _ is)) refl $ drop ! $ drop ! $
         returns ! (look ! 26 refl) $ forget ! 8 refl $ forget ! 10 refl $ forget ! 12 refl $ forget ! 14 refl $ forget ! 16 refl $ forget ! 18 refl $ forget ! 20 refl $ forget ! 22 refl $ forget ! 24 refl $ forget ! 26 refl $
         move ! (26 ∷ 27 ∷ []) $ free1 ! $ move ! (24 ∷ 25 ∷ []) $ free1 ! $ move ! (22 ∷ 23 ∷ []) $ free1 ! $ move ! (20 ∷ 21 ∷ []) $ free1 ! $ move ! (18 ∷ 19 ∷ []) $ free1 ! $
         move ! (16 ∷ 17 ∷ []) $ free1 ! $ move ! (14 ∷ 15 ∷ []) $ free1 ! $ move ! (12 ∷ 13 ∷ []) $ free1 ! $ move ! (10 ∷ 11 ∷ []) $ free1 ! $ move ! (8 ∷ 9 ∷ []) $ free1 ! $ free0 ! $
-        by ! (exits x gs zs (e ∙ ap flatOf (d .1 .1 .0), d .1 .1 .1, d .1 .1 .2) gl el (answered x _ is)))))))))))))))
+        by ! (exits x gs zs (e ∙ ap flatReading (d .1 .1 .0), d .1 .1 .1, d .1 .1 .2) gl el (answered x _ is)))))))))))))))
 
-module _ {M : Type 1} (𝓤 : URA M) (H : Heap 𝓤) (A : Atoms 𝓤) (W : Given 𝓤 H A) (mem : Memory → SProp 𝓤) (run : Routine → Fun 𝓤) (𝓣 : Tables 𝓤 H) (known-read : Triple 𝓤 (𝓣 .C #read·read) (Reads 𝓤 H A mem run)) (known-flat : Triple 𝓤 (𝓣 .C #capi-read·flat) (Flats 𝓤 H A mem run)) where
+module _ {M : Type 1} (𝓤 : URA M) (H : Heap 𝓤) (A : Atoms 𝓤) (W : Given 𝓤 H A) (mem : Memory → SProp 𝓤) (run : Routine → Fun 𝓤) (𝓣 : Tables 𝓤 H) (known-read : Triple 𝓤 (𝓣 .C #read·read) (Reads 𝓤 H A mem run)) (known-flat : Triple 𝓤 (𝓣 .C #capi-answers·flat-reading) (Flats 𝓤 H A mem run)) where
   mrkvandel-read-walks : Walks 𝓤 H A f.ended stayed (WpFn 𝓤 H (𝓣 .C) (𝓣 .Λ) code.function) (f.clauses 𝓤 H A mem run)
   mrkvandel-read-walks = walked 𝓤 H A f.ended stayed (f.clauses 𝓤 H A mem run) (WpFn 𝓤 H (𝓣 .C) (𝓣 .Λ) code.function)
       (λ κs. (slice-vals, (slice-vals, (slice-vals, (slice-vals, tt)))))
@@ -247,4 +247,4 @@ mrkvandel-read-spec 𝓤 H 𝓜 𝓖 𝓡 =
     (tables 𝓤 H 𝓜 𝓡 code.env .C) (tables 𝓤 H 𝓜 𝓡 code.env .Λ) #capi-read·mrkvandel-read code.function (code.unfolded 𝓤 H 𝓜 𝓡)
     (mrkvandel-read-meets 𝓤 H (𝓖 .A) (givenOf 𝓤 H 𝓜 𝓖) (𝓜 .mem) (𝓡 .run) (tablesOf 𝓤 H 𝓜 (tables 𝓤 H 𝓜 𝓡 code.env))
     (cited 𝓤 H (Reads 𝓤 H (𝓖 .A) (𝓜 .mem) (𝓡 .run)) 𝓜 𝓡 code.env #read·read read-def.routine code.calls-read·read (read-thm.met 𝓤 H 𝓜 𝓖 𝓡))
-    (cited 𝓤 H (Flats 𝓤 H (𝓖 .A) (𝓜 .mem) (𝓡 .run)) 𝓜 𝓡 code.env #capi-read·flat flat-def.routine code.calls-capi-read·flat (flat-thm.met 𝓤 H 𝓜 𝓖 𝓡)))
+    (cited 𝓤 H (Flats 𝓤 H (𝓖 .A) (𝓜 .mem) (𝓡 .run)) 𝓜 𝓡 code.env #capi-answers·flat-reading flat-def.routine code.calls-capi-answers·flat-reading (flat-thm.met 𝓤 H 𝓜 𝓖 𝓡)))

@@ -1,6 +1,6 @@
-use Rattle.capi_respell.proofs.Flattened.{flattening}
-use Rattle.capi_respell.proofs.flat_respelling.Statement.{statement}
-use Rattle.capi_respell.proofs.flat_respelling.Tie as tie
+use Rattle.capi_answers.proofs.Flattened.{flattening}
+use Rattle.capi_answers.proofs.flat_respelling.Statement.{statement}
+use Rattle.capi_answers.proofs.flat_respelling.Tie as tie
 
 enum-known-r : tie.Need-enum-known-r
 enum-known-r c = search flattening

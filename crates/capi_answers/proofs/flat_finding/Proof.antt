@@ -1,6 +1,6 @@
-use Rattle.capi_find.proofs.Flattened.{flattening}
-use Rattle.capi_find.proofs.flat_finding.Statement.{statement}
-use Rattle.capi_find.proofs.flat_finding.Tie as tie
+use Rattle.capi_answers.proofs.Flattened.{flattening}
+use Rattle.capi_answers.proofs.flat_finding.Statement.{statement}
+use Rattle.capi_answers.proofs.flat_finding.Tie as tie
 
 enum-known-f : tie.Need-enum-known-f
 enum-known-f c = search flattening

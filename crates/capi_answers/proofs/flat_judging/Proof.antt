@@ -1,6 +1,6 @@
-use Rattle.capi_judge.proofs.Flattened.{flattening}
-use Rattle.capi_judge.proofs.flat_judging.Statement.{statement}
-use Rattle.capi_judge.proofs.flat_judging.Tie as tie
+use Rattle.capi_answers.proofs.Flattened.{flattening}
+use Rattle.capi_answers.proofs.flat_judging.Statement.{statement}
+use Rattle.capi_answers.proofs.flat_judging.Tie as tie
 
 enum-known-j : tie.Need-enum-known-j
 enum-known-j c = search flattening
