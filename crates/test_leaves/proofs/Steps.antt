@@ -15,12 +15,9 @@ use Rattle.widths.specs.Table.{listOf}
 use Rattle.query.specs.declared.QueryAnswer.{QueryAnswer}
 use Rattle.query.specs.declared.QueryAnswer.the-variants as Q
 use Rattle.query.specs.Asked.{queryOf}
-use Rattle.test_leaves.specs.declared.Code.{Code}
-use Rattle.test_leaves.specs.Codes.{code, codeOf, codeAt, listIs, listCode, queryIs, queryCode}
-
--- a command that is known by its case
-pub of-case : (q k : Command) (r : Code) → q ≡ k → r ≡ codeOf k → r ≡ codeOf q
-of-case q k r e f = rw (f, e)
+use Rattle.test_codes.specs.declared.Code.{Code}
+use Rattle.test_codes.specs.Codes.{code, codeOf}
+use Rattle.test_leaves.specs.Codes.{codeAt, listIs, listCode, queryIs, queryCode}
 
 module _ (s : List ℕ) (at : ℕ) (r : Code) where
   pub at-inside : (q : Command) → at < length s → q ≡ commandAt s at → r ≡ codeOf q → r ≡ codeAt s at
@@ -59,4 +56,4 @@ module _ (t : List ℕ) (r : Code) where
   pub query-judged : (a k : QueryAnswer) → length t ≤ 8192 → a ≡ queryOf (query t) → a ≡ k → r ≡ queryNumbers k → r ≡ queryCode t
   query-judged a k h e g f = rw (le-ltb 8192 (length t) h) (f ∙ ap queryNumbers (sym g ∙ e) ∙ query-same (query t))
 
-pub ruleset steps = (of-case, at-inside, at-end, list-long, list-judged, query-long, query-judged, needs)
+pub ruleset steps = (at-inside, at-end, list-long, list-judged, query-long, query-judged, needs)

@@ -1,6 +1,0 @@
--- The record of zeros that a row holds before it is filled.
-use lib.IntN.{pos}
-use Rattle.rules.specs.declared.Record.{Record}
-
-abbrev pub blankRecord : Record
-blankRecord = record { ordinal = 0; page = pos 0; h = pos 0; v = pos 0; font = 0; size = 0; place = 0; len = 0; index = 0; gap = 0 }
