@@ -48,8 +48,8 @@ for folder in "$root"/tests/programs/*/; do
     count "$name" "$said"
 done
 
-# The largest stream that the programs take, 1 MiB with 65,536 records, as many entries and, for `find`, as many hits; one byte more; a
-# full disk. For `glyphs` and `find` one record more.
+# The largest stream that the programs take, 1 MiB with 65,536 records, as many entries and, for `small_find`, as many hits; one byte
+# more; a full disk. For `small_glyphs` and `small_find` one record more.
 repeat() { yes "$1" | head -n "$2"; }
 head='x T ps\nx res 72000 1 1\nx init\np1\nx font 1 TR\nf1\ns10000\n'
 large="$work/large"
@@ -97,7 +97,7 @@ large_cases find 'found 65536 65536' widths query
 a_record_too_many find widths query
 large_cases respell 'x s' widths
 
-# A spelling of 4,194,304 bytes, all the room that `respell` has; and one of a byte more. A word of 8 glyphs at h from 99,990,000 on
+# A spelling of 4,194,304 bytes, all the room that `small_respell` has; and one of a byte more. A word of 8 glyphs at h from 99,990,000 on
 # takes 8 lines of `H` and as many of `c`; the rest is made up by an `x X`.
 spelling() { # BYTES
     { printf "$head"; repeat H99990000taaaaaaaa 34920; } > "$work/words"

@@ -65,7 +65,7 @@ fn passed(st: Progress) -> Fed
     }
 }
 
-// A hit at the record, where the row has room for it.
+// A hit at the record. The row has room for every hit, since they were counted before; that is not known here, so it is tested.
 fn hit(st: Progress) -> Fed
     requires { ⌜ (st .at < st .records) × (st .records ≤ 16777216) ⌝ }
     ensures { λ r. ⌜ r ≡ hitAt st ⌝ }

@@ -108,7 +108,7 @@ fn refused_on(e: Environment, n: u32) -> Did
     }
 }
 
-// A control that begins at a place, or what no rule reads. Any other command is refused.
+// A control that begins at a place, or what no rule reads. No other command comes here: the last arm is there for the match alone.
 pub fn controlled_on(e: Environment, at: usize, c: Command) -> Did
     requires { ⌜ Fits e × CommandIn at 16777216 c ⌝ }
     ensures { λ r. ⌜ r ≡ controlledAt e at c ⌝ }

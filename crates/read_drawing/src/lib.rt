@@ -103,7 +103,7 @@ fn fill_on(e: Environment, scheme: u32, paint: Colour, at: usize, end: usize) ->
     }
 }
 
-// A drawing that begins at a place. A command that is none is refused.
+// A drawing that begins at a place. No other command comes here: the last arm is there for the match alone.
 pub fn drawn_on(e: Environment, at: usize, c: Command) -> Did
     requires { ⌜ Fits e × CommandIn at 16777216 c ⌝ }
     ensures { λ r. ⌜ r ≡ drawnAt e at c ⌝ }

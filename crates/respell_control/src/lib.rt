@@ -98,7 +98,7 @@ fn put_text(out: &mut [u8], at: usize, s: &[u8], place: usize, end: usize) -> us
     put_raw(out, a, s, p, end)
 }
 
-// The line of a control at a place of the stream, its newline aside.
+// The line of a control at a place of the stream, its newline aside. No other command comes here: the last arm is there for the match alone.
 pub fn put_control(out: &mut [u8], at: usize, s: &[u8], place: usize, c: Command) -> usize
     requires { ⌜ (place < length (now s)) × Control c ⌝ }
     ensures { λ r. ⌜ record { bytes = now (out .exit); at = r } ≡ putAll (lineOf (now (s .entry)) place c) (record { bytes = now (out .entry); at = at }) ⌝ }

@@ -106,7 +106,7 @@ fn put_shape(out: &mut [u8], at: usize, s: &[u8], place: usize, letter: u32, ter
     respell_arguments::put_args(out, b, s, from, draw_count(letter, terms))
 }
 
-// The line of a drawing at a place of the stream, its newline aside.
+// The line of a drawing at a place of the stream, its newline aside. No other command comes here: the last arm is there for the match alone.
 pub fn put_drawing(out: &mut [u8], at: usize, s: &[u8], place: usize, c: Command) -> usize
     requires { ⌜ (place < length (now s)) × (length (now s) ≤ 16777216) × CommandIn place (length (now s)) c × Drawing c ⌝ }
     ensures { λ r. ⌜ record { bytes = now (out .exit); at = r } ≡ putAll (lineOf (now (s .entry)) place c) (record { bytes = now (out .entry); at = at }) ⌝ }
