@@ -1,7 +1,7 @@
 #!/usr/bin/env bash
 # The programs, as `rt ci` left them in target/bin, under a stack of 8 MiB. Each folder NAME-CASE of programs/ has the words that
-# small_NAME is run with, one to a line (`args`), the files that they name, and what it must write on standard output and standard error (no file:
-# nothing). The large cases are made here; those that are accepted are held to what the second program prints.
+# small_NAME is run with, one to a line (`args`), the files that they name, and what it must write on standard output and standard
+# error (no file: nothing). The large cases are made here; those that are accepted are held to what the second program prints.
 # A program of the kit has no exit status of its own: 0 says only that it did not crash.
 set -u
 cd "$(dirname "$0")/.." || exit 2
