@@ -2,8 +2,8 @@
 use capi_answers::FindResult;
 use rules::Record;
 ghost use mathlib.Core.Path.{_≡_};
-ghost use lib.ListN.{length};
-ghost use Rattle.rules.specs.Answers.{findInto, findingOf, recordsFound, hitsOver};
+ghost use Rattle.rules.specs.declared.Finding.{Finding};
+ghost use Rattle.rules.specs.Calls.{FindCall};
 ghost use Rattle.capi_answers.specs.Flat.{flatFinding};
 
 // The finder, `find::find`.
@@ -15,7 +15,7 @@ pub extern "C" fn mrkvandel_find(
     records: &mut [Record],
     hits: &mut [u32],
 ) -> FindResult
-    ensures { λ r. ⌜ (r ≡ flatFinding (findingOf (findInto (length (now (records .entry))) (length (now (hits .entry))) (now (stream .entry)) (now (widths .entry)) (now (query .entry))))) × (now (records .exit) ≡ recordsFound (now (records .entry)) (findInto (length (now (records .entry))) (length (now (hits .entry))) (now (stream .entry)) (now (widths .entry)) (now (query .entry)))) × (now (hits .exit) ≡ hitsOver (now (hits .entry)) (findInto (length (now (records .entry))) (length (now (hits .entry))) (now (stream .entry)) (now (widths .entry)) (now (query .entry)))) ⌝ }
+    ensures { λ r. ⌜ (a : Finding) × FindCall (now (stream .entry)) (now (widths .entry)) (now (query .entry)) (now (records .entry)) (now (hits .entry)) a (now (records .exit)) (now (hits .exit)) × (r ≡ flatFinding a) ⌝ }
 {
     let f = find::find(stream, widths, query, records, hits);
     capi_answers::flat_finding(f)

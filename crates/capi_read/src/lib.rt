@@ -3,8 +3,8 @@ use capi_answers::ReadResult;
 use rules::Entry;
 use rules::Record;
 ghost use mathlib.Core.Path.{_≡_};
-ghost use lib.ListN.{length};
-ghost use Rattle.rules.specs.Answers.{readInto, readingOf, recordsOver, entriesOver};
+ghost use Rattle.rules.specs.declared.Reading.{Reading};
+ghost use Rattle.rules.specs.Calls.{ReadCall};
 ghost use Rattle.capi_answers.specs.Flat.{flatReading};
 
 // The reader, `read::read`.
@@ -15,7 +15,7 @@ pub extern "C" fn mrkvandel_read(
     records: &mut [Record],
     entries: &mut [Entry],
 ) -> ReadResult
-    ensures { λ r. ⌜ (r ≡ flatReading (readingOf (readInto (length (now (records .entry))) (length (now (entries .entry))) (now (stream .entry)) (now (widths .entry))))) × (now (records .exit) ≡ recordsOver (now (records .entry)) (readInto (length (now (records .entry))) (length (now (entries .entry))) (now (stream .entry)) (now (widths .entry)))) × (now (entries .exit) ≡ entriesOver (now (entries .entry)) (readInto (length (now (records .entry))) (length (now (entries .entry))) (now (stream .entry)) (now (widths .entry)))) ⌝ }
+    ensures { λ r. ⌜ (a : Reading) × ReadCall (now (stream .entry)) (now (widths .entry)) (now (records .entry)) (now (entries .entry)) a (now (records .exit)) (now (entries .exit)) × (r ≡ flatReading a) ⌝ }
 {
     let r = read::read(stream, widths, records, entries);
     capi_answers::flat_reading(r)

@@ -1,3 +1,5 @@
-pub mod Theorems
-pub mod Numbers
-pub mod Judged
+pub mod Allowed
+pub mod ReadCalls
+pub mod SpellCalls
+pub mod FindCalls
+pub mod Proved

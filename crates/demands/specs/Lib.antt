@@ -1,1 +1,1 @@
-pub mod Statements
+pub mod Demands

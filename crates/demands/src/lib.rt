@@ -1,1 +1,1 @@
-// The theorems of the demands over the rules. Their statements stand in specs/, to be read without the proofs. No code.
+// The demands of the department, over the contracts of the routines: specs/Demands.antt, to be read on its own. No code.

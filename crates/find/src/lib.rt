@@ -3,9 +3,7 @@
 use rules::Entry;
 use rules::Finding;
 use rules::Record;
-ghost use mathlib.Core.Path.{_≡_};
-ghost use lib.ListN.{length};
-ghost use Rattle.rules.specs.Answers.{findInto, findingOf, recordsFound, hitsOver};
+ghost use Rattle.rules.specs.Calls.{FindCall};
 
 fn query_room() -> [u32; 193] {
     [0u32; 193]
@@ -27,7 +25,7 @@ fn no_entries() -> [Entry; 1] {
 
 // How many records and hits; or a refusal, which leaves both rows as they were.
 pub fn find(s: &[u8], list: &[u8], q: &[u8], records: &mut [Record], hits: &mut [u32]) -> Finding
-    ensures { λ r. ⌜ (r ≡ findingOf (findInto (length (now (records .entry))) (length (now (hits .entry))) (now (s .entry)) (now (list .entry)) (now (q .entry)))) × (now (records .exit) ≡ recordsFound (now (records .entry)) (findInto (length (now (records .entry))) (length (now (hits .entry))) (now (s .entry)) (now (list .entry)) (now (q .entry)))) × (now (hits .exit) ≡ hitsOver (now (hits .entry)) (findInto (length (now (records .entry))) (length (now (hits .entry))) (now (s .entry)) (now (list .entry)) (now (q .entry)))) ⌝ }
+    ensures { λ r. ⌜ FindCall (now (s .entry)) (now (list .entry)) (now (q .entry)) (now (records .entry)) (now (hits .entry)) r (now (records .exit)) (now (hits .exit)) ⌝ }
 {
     let mut ws = read_scratch::room();
     let mut rows = query_room();

@@ -22,7 +22,7 @@ use Rattle.rules.specs.Answers.{streamMost, isOver, read, Found, notFound, foun
 use Rattle.laws.proofs.Cases.{on, no as impossible, if-both, or-true, take-front}
 use Rattle.laws_scan.proofs.Names.{RowIn, AllRows, RowsOf, names-stand}
 use Rattle.laws_find.specs.Occurs.{noWanted}
-use Rattle.demands.proofs.Theorems.{keysIn, keys-by-outline}
+use Rattle.laws_answers.proofs.Theorems.{keysIn, keys-by-outline}
 use Rattle.find_match.specs.Parts.{partIn}
 use Rattle.read_model.specs.declared.State.{State}
 use Rattle.read_model.specs.Passes.{ReadPass, readPassOf}

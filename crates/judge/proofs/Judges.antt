@@ -12,6 +12,7 @@ use borrow.Author.Tests.{ne-eqb, ltb-true, ltb-false}
 use Rattle.rules.specs.declared.Judging.{Judging}
 use Rattle.rules.specs.declared.Judging.the-variants as J
 use Rattle.rules.specs.Answers.{streamMost, isOver, lengthOf, judge}
+use Rattle.rules.specs.Calls.{JudgeCall}
 use Rattle.laws.proofs.Cases.{on}
 use Rattle.read_model.proofs.Passes.{Refused}
 use Rattle.respell_model.specs.declared.Writing.{Writing}
@@ -47,7 +48,7 @@ module _ (s list : List ℕ) (w : Writing) (ws : List ℕ) where
       accepted-is w (length (g .rows)) (length (g .items)) (g .end .ordinal) (lengthOf (textOf s (g .on .widths))) (g .clear) (g .stopped) (g .count) (g .number) (g .pages) (g .measured ∙ counted (textOf s (g .on .widths)))
       ∙ rw (g .on .answered, g .on .list-is, g .said)
 
-  pub judges : (r : Judging) → r ≡ judgeAnswerOf w → Measured s list w ws → r ≡ judge s list
-  judges r e m = e ∙ says m (first-says s list (m .first) (m .scratch) (m .started) (m .buffer) (passAt w ws (m .left)) (m .runs) (m .bytes))
+  pub judges : (r : Judging) → r ≡ judgeAnswerOf w → Measured s list w ws → JudgeCall s list r
+  judges r e m = record { answer = e ∙ says m (first-says s list (m .first) (m .scratch) (m .started) (m .buffer) (passAt w ws (m .left)) (m .runs) (m .bytes)) }
 
 pub ruleset judging = (judges, needs)

@@ -3,13 +3,11 @@
 use rules::Entry;
 use rules::Reading;
 use rules::Record;
-ghost use mathlib.Core.Path.{_≡_};
-ghost use lib.ListN.{length};
-ghost use Rattle.rules.specs.Answers.{readInto, readingOf, recordsOver, entriesOver};
+ghost use Rattle.rules.specs.Calls.{ReadCall};
 
 // The numbers of records, entries and pages, the end position and both colours; or a refusal, which leaves both rows as they were.
 pub fn read(s: &[u8], list: &[u8], records: &mut [Record], entries: &mut [Entry]) -> Reading
-    ensures { λ r. ⌜ (r ≡ readingOf (readInto (length (now (records .entry))) (length (now (entries .entry))) (now (s .entry)) (now (list .entry)))) × (now (records .exit) ≡ recordsOver (now (records .entry)) (readInto (length (now (records .entry))) (length (now (entries .entry))) (now (s .entry)) (now (list .entry)))) × (now (entries .exit) ≡ entriesOver (now (entries .entry)) (readInto (length (now (records .entry))) (length (now (entries .entry))) (now (s .entry)) (now (list .entry)))) ⌝ }
+    ensures { λ r. ⌜ ReadCall (now (s .entry)) (now (list .entry)) (now (records .entry)) (now (entries .entry)) r (now (records .exit)) (now (entries .exit)) ⌝ }
 {
     let mut ws = read_scratch::room();
     let a = read_setup::start(&mut ws, s, list);

@@ -5,12 +5,13 @@ use mathlib.Core.Path.{_≡_, refl, sym, subst, _∙_}
 use lib.ListN.{length}
 use borrow.Author.Needs.{needs}
 use Rattle.rules.specs.declared.Respelling.{Respelling}
+use Rattle.rules.specs.Calls.{RespellCall}
 use Rattle.read_model.specs.declared.State.{State}
 use Rattle.read_turn.specs.Ready.{Scratch}
 use Rattle.read_pass.specs.Ready.{PassReady}
 use Rattle.read_setup.specs.Setup.{Unmounted}
 use Rattle.respell_model.specs.declared.Writing.{Writing}
-use Rattle.respell_twice.specs.Respell.{beginAt, passAt, Measured, nextOf, respellAnswerOf, Respelled}
+use Rattle.respell_twice.specs.Respell.{beginAt, passAt, Measured, nextOf, respellAnswerOf}
 use Rattle.respell_twice.proofs.First.{Runs, begun, first-scratch}
 use Rattle.respell_twice.proofs.Twice.{second-sound, spells-as}
 
@@ -25,11 +26,11 @@ module _ (s list : List ℕ) (w : Writing) (ws₁ : List ℕ) where
         (second-sound s list (m .first) (m .scratch) (m .started) (m .buffer) (passAt w ws₁ (m .left)) (m .runs) (m .bytes) o (nextOf w (length s) (length o)) refl ws₂ u)
 
     pub answers : (v : Writing) (ws₃ o′ : List ℕ) (g : Respelling) → Unmounted ws₁ ws₂ → x ≡ beginAt (nextOf w (length s) (length o)) → Measured s list w ws₁ → Runs s list x ws₂ o v ws₃ o′ → g ≡ respellAnswerOf v
-        → Respelled s list o g o′
+        → RespellCall s list o g o′
     answers v ws₃ o′ g u e m r k =
         let c : State = nextOf w (length s) (length o) in
-        let t : Respelled s list o (respellAnswerOf v) o′ =
+        let t : RespellCall s list o (respellAnswerOf v) o′ =
         spells-as s list (m .first) (m .scratch) (m .started) (m .buffer) (passAt w ws₁ (m .left)) (m .runs) (m .bytes) o c refl ws₂ u (passAt v ws₃ o′) (begun s list c x ws₂ o v ws₃ o′ e r) in
-        (k ∙ t .0, t .1)
+        record { answer = k ∙ t .answer; buffer = t .buffer }
 
 pub ruleset joined = (again-asks, second-asks, answers, needs)

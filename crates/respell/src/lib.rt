@@ -1,16 +1,13 @@
 // The rewriter (document 01, "House spelling"): a stream with its width list, and a lent buffer. One pass judges the stream and
 // measures its spelling, and where nothing is against them a second one writes it.
 use rules::Respelling;
-ghost use mathlib.Core.Path.{_≡_};
-ghost use lib.ListN.{length};
-ghost use Rattle.rules.specs.Answers.{respellInto, respellingOf, bufferOver};
+ghost use Rattle.rules.specs.Calls.{RespellCall};
 ghost use Rattle.read_turn.specs.Ready.{Scratch};
-ghost use Rattle.respell_twice.specs.Respell.{Respelled};
 
 // Both passes; the first one's bytes go to none.
 fn both(none: &mut [u8], ws: &mut [u32], s: &[u8], list: &[u8], out: &mut [u8]) -> Respelling
     requires { ⌜ Scratch (now ws) ⌝ }
-    ensures { λ r. ⌜ Respelled (now (s .entry)) (now (list .entry)) (now (out .entry)) r (now (out .exit)) ⌝ }
+    ensures { λ r. ⌜ RespellCall (now (s .entry)) (now (list .entry)) (now (out .entry)) r (now (out .exit)) ⌝ }
 {
     let a = respell_measure::measure(none, ws, s, list);
     let b = respell_setup::again(ws, a, s.len(), out.len());
@@ -20,7 +17,7 @@ fn both(none: &mut [u8], ws: &mut [u32], s: &[u8], list: &[u8], out: &mut [u8]) 
 
 // The length of the spelling, which stands at the start of the buffer; or a refusal, which leaves the buffer as it was.
 pub fn respell(s: &[u8], list: &[u8], out: &mut [u8]) -> Respelling
-    ensures { λ r. ⌜ (r ≡ respellingOf (respellInto (length (now (out .entry))) (now (s .entry)) (now (list .entry)))) × (now (out .exit) ≡ bufferOver (now (out .entry)) (respellInto (length (now (out .entry))) (now (s .entry)) (now (list .entry)))) ⌝ }
+    ensures { λ r. ⌜ RespellCall (now (s .entry)) (now (list .entry)) (now (out .entry)) r (now (out .exit)) ⌝ }
 {
     let mut ws = read_scratch::room();
     let mut none = respell_measure::no_bytes();

@@ -2,4 +2,3 @@ pub mod Sheets
 pub mod Lines
 pub mod House
 pub mod Passes
-pub mod Demand

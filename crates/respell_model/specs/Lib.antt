@@ -2,4 +2,3 @@ pub mod Sheet
 pub mod Lines
 pub mod Command
 pub mod Passes
-pub mod Demand

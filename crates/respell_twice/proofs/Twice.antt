@@ -14,6 +14,7 @@ use Rattle.rules.specs.State.{Env}
 use Rattle.rules.specs.Widths.{Widths, sound, widthList}
 use Rattle.rules.specs.Record.{GlyphRow, ItemRow, Answer, refuse, answer, over}
 use Rattle.rules.specs.Answers.{streamMost, isOver, read, Spelling, notSpelled, spelled, respell, respellInto, respellingOf, bufferOver}
+use Rattle.rules.specs.Calls.{RespellCall}
 use Rattle.laws.proofs.Cases.{on}
 use Rattle.read_model.specs.declared.State.{State}
 use Rattle.read_model.specs.Passes as R
@@ -29,7 +30,7 @@ use Rattle.respell_model.specs.Sheet.{Sheet}
 use Rattle.respell_model.specs.Passes.{RespellPass, respellPassOf, sheetAt}
 use Rattle.respell_model.proofs.Sheets.{put-over}
 use Rattle.respell_model.proofs.Passes.{pass-same, stays}
-use Rattle.respell_twice.specs.Respell.{tooLong, heldBack, nextOf, respellAnswerOf, Respelled}
+use Rattle.respell_twice.specs.Respell.{tooLong, heldBack, nextOf, respellAnswerOf}
 use Rattle.respell_twice.proofs.First.{passFrom, endOf, saidOf, textOf, run-spells, Refuses, Accepts, first-says}
 
 -- ---- what the second pass finds: a refusal, or a spelling that has room
@@ -215,5 +216,5 @@ module _ (s list : List ℕ) (a : State) (ws₁ : List ℕ) (h : Started s list 
       case-spells (inr o) = goes-spells o
 
       -- and what is answered
-      pub spells-as : Respelled s list o₂ (respellAnswerOf (endOf q)) (q .bytes)
-      spells-as = case-spells outcome
+      pub spells-as : RespellCall s list o₂ (respellAnswerOf (endOf q)) (q .bytes)
+      spells-as = let y = case-spells outcome in record { answer = y .0; buffer = y .1 }

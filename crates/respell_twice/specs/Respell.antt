@@ -5,11 +5,10 @@ use mathlib.Core.Bool.{Bool, _||_, _&&_}
 use mathlib.Core.List.{List}
 use mathlib.Core.Path.{_≡_}
 use lib.Dec.{ltb, eqb}
-use lib.ListN.{length}
 use Rattle.rules.specs.declared.Respelling.{Respelling}
 use Rattle.rules.specs.declared.Respelling.the-variants as S
 use Rattle.rules.specs.Bytes.{if_then_else_, origin}
-use Rattle.rules.specs.Answers.{streamMost, respellInto, respellingOf, bufferOver}
+use Rattle.rules.specs.Answers.{streamMost}
 use Rattle.read_model.specs.declared.State.{State}
 use Rattle.read_turn.specs.Ready.{findIn}
 use Rattle.read_setup.specs.Setup.{refusedAt, againOf, Started, AreBytes}
@@ -53,7 +52,3 @@ nextOf w n room = heldBack (againOf (w .state) n (w .state .records) (w .state .
 -- the answer, where the last pass ended at w
 abbrev pub respellAnswerOf : Writing → Respelling
 respellAnswerOf w = if eqb (w .state .refusal) 0 then S.Accepted (w .mark .at) else S.Refused (w .state .refusal) (w .state .at)
-
--- what the rules answer, with the buffer before and afterwards
-abbrev pub Respelled : List ℕ → List ℕ → List ℕ → Respelling → List ℕ → Type 0
-Respelled s list old r new = (r ≡ respellingOf (respellInto (length old) s list)) × (new ≡ bufferOver old (respellInto (length old) s list))

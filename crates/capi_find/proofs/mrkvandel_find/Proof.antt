@@ -37,7 +37,7 @@ use denote.Exit.{yes}
 use denote.Signature.{plain}
 use Rattle.rules.specs.declared.Record.{Record}
 use Rattle.rules.specs.declared.Finding.{Finding}
-use Rattle.rules.specs.Answers.{Found, findInto, findingOf, recordsFound, hitsOver}
+use Rattle.rules.specs.Calls.{FindCall}
 use Rattle.capi_answers.specs.declared.FindResult.{FindResult}
 use Rattle.capi_answers.specs.Flat.{flatFinding}
 use Rattle.rules.proofs.Record as TG
@@ -122,10 +122,7 @@ module _ {M : Type 1} (𝓤 : URA M) (H : Heap 𝓤) (A : Atoms 𝓤) (W : Given
   abbrev Params : List Record → List ℕ → List (Item 𝓤) → List (Item 𝓤)
   Params gs zs Γ = ‵ (Records gs) ∷ ‵ (flft κ₃ q₃) ∷ ‵ (Hits zs) ∷ ‵ (flft κ₄ q₄) ∷ ‵ Str ∷ ‵ (flft κ₀ q₀) ∷ ‵ Names ∷ ‵ (flft κ₁ q₁) ∷ ‵ Query ∷ ‵ (flft κ₂ q₂) ∷ Γ
 
-  abbrev answer : Found
-  answer = findInto (length ys) (length hs) ss ls qs
-
-  exits : (x : FindResult) (gs : List Record) (zs : List ℕ) → (x ≡ flatFinding (findingOf answer)) × (gs ≡ recordsFound ys answer) × (zs ≡ hitsOver hs answer) → length gs ≡ length ys → length zs ≡ length hs → Is TX.the-row x (xv x ∷ [])
+  exits : (x : FindResult) (gs : List Record) (zs : List ℕ) → ((a : Finding) × FindCall ss ls qs ys hs a gs zs × (x ≡ flatFinding a)) → length gs ≡ length ys → length zs ≡ length hs → Is TX.the-row x (xv x ∷ [])
       → ent 𝓤 (⋆ 𝓤 H A (Params gs zs [])) (Post (xv x))
   exits x gs zs e gl hl is =
       qed W (Params gs zs []) ∵
@@ -153,7 +150,7 @@ module _ {M : Type 1} (𝓤 : URA M) (H : Heap 𝓤) (A : Atoms 𝓤) (W : Given
 
   -- what the finder ensures of its result and of the rows
   abbrev Told : Finding → List Record → List ℕ → Type 0
-  Told r g z = (r ≡ findingOf answer) × (g ≡ recordsFound ys answer) × (z ≡ hitsOver hs answer)
+  Told r g z = FindCall ss ls qs ys hs r g z
 
   -- the result is some r, at the machine value u
   abbrev done-finding : Val → List Record → List ℕ → Type 0
@@ -221,7 +218,7 @@ module _ {M : Type 1} (𝓤 : URA M) (H : Heap 𝓤) (A : Atoms 𝓤) (W : Given
         rewrite ! 32 (λ (z : Val). ‵ (fat fullShare TX′.mir l₀ 0 z)) (ap only (LL.tells TX.the-type TX′.the-laws x _ is)) refl $ drop ! $ drop ! $
         returns ! (look ! 30 refl) $ forget ! 10 refl $ forget ! 12 refl $ forget ! 14 refl $ forget ! 16 refl $ forget ! 18 refl $ forget ! 20 refl $ forget ! 22 refl $ forget ! 24 refl $ forget ! 26 refl $ forget ! 28 refl $ forget ! 30 refl $
         move ! (30 ∷ 31 ∷ []) $ free1 ! $ move ! (28 ∷ 29 ∷ []) $ free1 ! $ move ! (26 ∷ 27 ∷ []) $ free1 ! $ move ! (24 ∷ 25 ∷ []) $ free1 ! $ move ! (22 ∷ 23 ∷ []) $ free1 ! $ move ! (20 ∷ 21 ∷ []) $ free1 ! $ move ! (18 ∷ 19 ∷ []) $ free1 ! $ move ! (16 ∷ 17 ∷ []) $ free1 ! $ move ! (14 ∷ 15 ∷ []) $ free1 ! $ move ! (12 ∷ 13 ∷ []) $ free1 ! $ move ! (10 ∷ 11 ∷ []) $ free1 ! $ free0 ! $
-        by ! (exits x gs zs (e ∙ ap flatFinding (d .1 .1 .0), d .1 .1 .1, d .1 .1 .2) gl hl (answered x _ is))))))))))))))))
+        by ! (exits x gs zs (d .0, d .1 .1, e) gl hl (answered x _ is))))))))))))))))
 
 module _ {M : Type 1} (𝓤 : URA M) (H : Heap 𝓤) (A : Atoms 𝓤) (W : Given 𝓤 H A) (mem : Memory → SProp 𝓤) (run : Routine → Fun 𝓤) (𝓣 : Tables 𝓤 H) (known-find : Triple 𝓤 (𝓣 .C #find·find) (Finds 𝓤 H A mem run)) (known-flat : Triple 𝓤 (𝓣 .C #capi-answers·flat-finding) (Flats 𝓤 H A mem run)) where
   mrkvandel-find-walks : Walks 𝓤 H A f.ended stayed (WpFn 𝓤 H (𝓣 .C) (𝓣 .Λ) code.function) (f.clauses 𝓤 H A mem run)

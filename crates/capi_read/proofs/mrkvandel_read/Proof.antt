@@ -38,7 +38,7 @@ use Rattle.rules.specs.declared.Record.{Record}
 use Rattle.rules.specs.declared.Entry.{Entry}
 use Rattle.rules.specs.declared.Reading.{Reading}
 use Rattle.rules.specs.Record.{Answer}
-use Rattle.rules.specs.Answers.{readInto, readingOf, recordsOver, entriesOver}
+use Rattle.rules.specs.Calls.{ReadCall}
 use Rattle.capi_answers.specs.declared.ReadResult.{ReadResult}
 use Rattle.capi_answers.specs.Flat.{flatReading}
 use Rattle.rules.proofs.Record as TG
@@ -124,10 +124,7 @@ module _ {M : Type 1} (𝓤 : URA M) (H : Heap 𝓤) (A : Atoms 𝓤) (W : Given
   abbrev Params : List Record → List Entry → List (Item 𝓤) → List (Item 𝓤)
   Params gs zs Γ = ‵ (Records gs) ∷ ‵ (flft κ₂ q₂) ∷ ‵ (Entries zs) ∷ ‵ (flft κ₃ q₃) ∷ ‵ Str ∷ ‵ (flft κ₀ q₀) ∷ ‵ Names ∷ ‵ (flft κ₁ q₁) ∷ Γ
 
-  abbrev answer : Answer
-  answer = readInto (length ys) (length es) ss ls
-
-  exits : (x : ReadResult) (gs : List Record) (zs : List Entry) → (x ≡ flatReading (readingOf answer)) × (gs ≡ recordsOver ys answer) × (zs ≡ entriesOver es answer) → length gs ≡ length ys → length zs ≡ length es → Is TF.the-row x (xv x ∷ [])
+  exits : (x : ReadResult) (gs : List Record) (zs : List Entry) → ((a : Reading) × ReadCall ss ls ys es a gs zs × (x ≡ flatReading a)) → length gs ≡ length ys → length zs ≡ length es → Is TF.the-row x (xv x ∷ [])
       → ent 𝓤 (⋆ 𝓤 H A (Params gs zs [])) (Post (xv x))
   exits x gs zs e gl el is =
       qed W (Params gs zs []) ∵
@@ -155,7 +152,7 @@ module _ {M : Type 1} (𝓤 : URA M) (H : Heap 𝓤) (A : Atoms 𝓤) (W : Given
 
   -- what the reader ensures of its result and of the rows
   abbrev Told : Reading → List Record → List Entry → Type 0
-  Told r g z = (r ≡ readingOf answer) × (g ≡ recordsOver ys answer) × (z ≡ entriesOver es answer)
+  Told r g z = ReadCall ss ls ys es r g z
 
   -- the result is some r, at the machine value u
   abbrev done-reading : Val → List Record → List Entry → Type 0
@@ -223,7 +220,7 @@ module _ {M : Type 1} (𝓤 : URA M) (H : Heap 𝓤) (A : Atoms 𝓤) (W : Given
         returns ! (look ! 26 refl) $ forget ! 8 refl $ forget ! 10 refl $ forget ! 12 refl $ forget ! 14 refl $ forget ! 16 refl $ forget ! 18 refl $ forget ! 20 refl $ forget ! 22 refl $ forget ! 24 refl $ forget ! 26 refl $
         move ! (26 ∷ 27 ∷ []) $ free1 ! $ move ! (24 ∷ 25 ∷ []) $ free1 ! $ move ! (22 ∷ 23 ∷ []) $ free1 ! $ move ! (20 ∷ 21 ∷ []) $ free1 ! $ move ! (18 ∷ 19 ∷ []) $ free1 ! $
         move ! (16 ∷ 17 ∷ []) $ free1 ! $ move ! (14 ∷ 15 ∷ []) $ free1 ! $ move ! (12 ∷ 13 ∷ []) $ free1 ! $ move ! (10 ∷ 11 ∷ []) $ free1 ! $ move ! (8 ∷ 9 ∷ []) $ free1 ! $ free0 ! $
-        by ! (exits x gs zs (e ∙ ap flatReading (d .1 .1 .0), d .1 .1 .1, d .1 .1 .2) gl el (answered x _ is)))))))))))))))
+        by ! (exits x gs zs (d .0, d .1 .1, e) gl el (answered x _ is)))))))))))))))
 
 module _ {M : Type 1} (𝓤 : URA M) (H : Heap 𝓤) (A : Atoms 𝓤) (W : Given 𝓤 H A) (mem : Memory → SProp 𝓤) (run : Routine → Fun 𝓤) (𝓣 : Tables 𝓤 H) (known-read : Triple 𝓤 (𝓣 .C #read·read) (Reads 𝓤 H A mem run)) (known-flat : Triple 𝓤 (𝓣 .C #capi-answers·flat-reading) (Flats 𝓤 H A mem run)) where
   mrkvandel-read-walks : Walks 𝓤 H A f.ended stayed (WpFn 𝓤 H (𝓣 .C) (𝓣 .Λ) code.function) (f.clauses 𝓤 H A mem run)

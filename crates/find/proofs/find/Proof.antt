@@ -45,7 +45,7 @@ use denote.Signature.{plain}
 use Rattle.rules.specs.declared.Record.{Record}
 use Rattle.rules.specs.declared.Entry.{Entry}
 use Rattle.rules.specs.declared.Finding.{Finding}
-use Rattle.rules.specs.Answers.{Found, findInto, findingOf, recordsFound, hitsOver}
+use Rattle.rules.specs.Calls.{FindCall}
 use Rattle.read_model.specs.declared.State.{State}
 use Rattle.read_model.specs.Passes.{ReadPass, readPassOf}
 use Rattle.read_turn.specs.Ready.{findIn, Scratch}
@@ -241,10 +241,7 @@ module _ {M : Type 1} (𝓤 : URA M) (H : Heap 𝓤) (A : Atoms 𝓤) (W : Given
   abbrev Params : List Record → List ℕ → List (Item 𝓤) → List (Item 𝓤)
   Params gs zs Γ = ‵ (Records gs) ∷ ‵ (flft κ₃ q₃) ∷ ‵ (Hits zs) ∷ ‵ (flft κ₄ q₄) ∷ ‵ Str ∷ ‵ (flft κ₀ q₀) ∷ ‵ Names ∷ ‵ (flft κ₁ q₁) ∷ ‵ Query ∷ ‵ (flft κ₂ q₂) ∷ Γ
 
-  abbrev answer : Found
-  answer = findInto (length ys) (length hs) ss ls qs
-
-  exits : (r : Finding) (v : Val) (gs : List Record) (zs : List ℕ) → (r ≡ findingOf answer) × (gs ≡ recordsFound ys answer) × (zs ≡ hitsOver hs answer) → length gs ≡ length ys → length zs ≡ length hs → Is TF.the-row r (v ∷ [])
+  exits : (r : Finding) (v : Val) (gs : List Record) (zs : List ℕ) → FindCall ss ls qs ys hs r gs zs → length gs ≡ length ys → length zs ≡ length hs → Is TF.the-row r (v ∷ [])
       → ent 𝓤 (⋆ 𝓤 H A (Params gs zs [])) (Post v)
   exits r v gs zs e gl hl is =
       qed W (Params gs zs []) ∵
@@ -746,7 +743,7 @@ module _ {M : Type 1} (𝓤 : URA M) (H : Heap 𝓤) (A : Atoms 𝓤) (W : Given
         move ! (24 ∷ 25 ∷ []) $ free1 ! $ move ! (22 ∷ 23 ∷ []) $ free1 ! $ move ! (20 ∷ 21 ∷ []) $ free1 ! $ move ! (18 ∷ 19 ∷ []) $ free1 ! $ move ! (16 ∷ 17 ∷ []) $ free1 ! $ move ! (14 ∷ 15 ∷ []) $ free1 ! $
         move ! (12 ∷ 13 ∷ []) $ free1 ! $ move ! (10 ∷ 11 ∷ []) $ free1 ! $
         free0 ! $
-        by ! (exits r v gs₂ hs₁ (let y = finds-as ss ls qs ys zs₀ hs (d₀ .0) rows₁ (d₀ .1 .1) (d₁ .0) ws₁ (d₁ .1 .1) (passFrom (d₂ .0) ws₁′ gs₁ zs₁) (d₂ .1 .1 .1) too e-too (d₃ .0) (d₃ .1 .1 .0) ws₂ (d₃ .1 .1 .1) (passFrom (d₄ .0) ws₂′ gs₂ zs₂) (d₄ .1 .1 .1) g e-g (record { state = d₅ .0; hits = hs₁ }) (d₅ .1 .1 .1) in (e ∙ y .0, y .1, y .2)) (d₄ .1 .1 .0 ∙ d₂ .1 .1 .0) (d₅ .1 .1 .0) is))))))))))))))))))))))))))))))))))))))))))))))))))))))))))))))))))))))
+        by ! (exits r v gs₂ hs₁ (let y = finds-as ss ls qs ys zs₀ hs (d₀ .0) rows₁ (d₀ .1 .1) (d₁ .0) ws₁ (d₁ .1 .1) (passFrom (d₂ .0) ws₁′ gs₁ zs₁) (d₂ .1 .1 .1) too e-too (d₃ .0) (d₃ .1 .1 .0) ws₂ (d₃ .1 .1 .1) (passFrom (d₄ .0) ws₂′ gs₂ zs₂) (d₄ .1 .1 .1) g e-g (record { state = d₅ .0; hits = hs₁ }) (d₅ .1 .1 .1) in record { answer = e ∙ y .0; records = y .1; hits = y .2 }) (d₄ .1 .1 .0 ∙ d₂ .1 .1 .0) (d₅ .1 .1 .0) is))))))))))))))))))))))))))))))))))))))))))))))))))))))))))))))))))))))
 
 module _ {M : Type 1} (𝓤 : URA M) (H : Heap 𝓤) (A : Atoms 𝓤) (W : Given 𝓤 H A) (mem : Memory → SProp 𝓤) (run : Routine → Fun 𝓤) (𝓣 : Tables 𝓤 H)
     (known-room : Triple 𝓤 (𝓣 .C #read-scratch·room) (Rooms 𝓤 H A mem run)) (known-query-room : Triple 𝓤 (𝓣 .C #find·query-room) (QueryRooms 𝓤 H A mem run)) (known-no-entries : Triple 𝓤 (𝓣 .C #find·no-entries) (Nones 𝓤 H A mem run)) (known-ask : Triple 𝓤 (𝓣 .C #find-ask·ask) (Asks 𝓤 H A mem run)) (known-start : Triple 𝓤 (𝓣 .C #find-setup·start) (Starts 𝓤 H A mem run)) (known-pass : Triple 𝓤 (𝓣 .C #read-pass·pass) (Passes 𝓤 H A mem run)) (known-too-many : Triple 𝓤 (𝓣 .C #find-room·too-many) (TooManys 𝓤 H A mem run)) (known-again : Triple 𝓤 (𝓣 .C #find-setup·again) (Agains 𝓤 H A mem run)) (known-progress : Triple 𝓤 (𝓣 .C #find-setup·progress) (Begins 𝓤 H A mem run)) (known-search : Triple 𝓤 (𝓣 .C #find-search·search) (Searches 𝓤 H A mem run)) (known-answer : Triple 𝓤 (𝓣 .C #find-setup·answer) (Answers 𝓤 H A mem run)) where

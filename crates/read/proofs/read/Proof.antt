@@ -43,7 +43,7 @@ use Rattle.rules.specs.declared.Record.{Record}
 use Rattle.rules.specs.declared.Entry.{Entry}
 use Rattle.rules.specs.declared.Reading.{Reading}
 use Rattle.rules.specs.Record.{Answer}
-use Rattle.rules.specs.Answers.{readInto, readingOf, recordsOver, entriesOver}
+use Rattle.rules.specs.Calls.{ReadCall}
 use Rattle.read_model.specs.declared.State.{State}
 use Rattle.read_model.specs.Fits.{EnvFits}
 use Rattle.read_model.specs.Passes.{ReadPass, readPassOf}
@@ -168,10 +168,7 @@ module _ {M : Type 1} (𝓤 : URA M) (H : Heap 𝓤) (A : Atoms 𝓤) (W : Given
   abbrev Params : List Record → List Entry → List (Item 𝓤) → List (Item 𝓤)
   Params gs zs Γ = ‵ (Records gs) ∷ ‵ (flft κ₂ q₂) ∷ ‵ (Entries zs) ∷ ‵ (flft κ₃ q₃) ∷ ‵ Str ∷ ‵ (flft κ₀ q₀) ∷ ‵ Names ∷ ‵ (flft κ₁ q₁) ∷ Γ
 
-  abbrev answer : Answer
-  answer = readInto (length ys) (length es) ss ls
-
-  exits : (r : Reading) (gs : List Record) (zs : List Entry) → (r ≡ readingOf answer) × (gs ≡ recordsOver ys answer) × (zs ≡ entriesOver es answer) → length gs ≡ length ys → length zs ≡ length es → Is TR.the-row r (rv r ∷ [])
+  exits : (r : Reading) (gs : List Record) (zs : List Entry) → ReadCall ss ls ys es r gs zs → length gs ≡ length ys → length zs ≡ length es → Is TR.the-row r (rv r ∷ [])
       → ent 𝓤 (⋆ 𝓤 H A (Params gs zs [])) (Post (rv r))
   exits r gs zs e gl el is =
       qed W (Params gs zs []) ∵
@@ -408,7 +405,7 @@ module _ {M : Type 1} (𝓤 : URA M) (H : Heap 𝓤) (A : Atoms 𝓤) (W : Given
         move ! (42 ∷ 43 ∷ []) $ free1 ! $ move ! (40 ∷ 41 ∷ []) $ free1 ! $ move ! (38 ∷ 39 ∷ []) $ free1 ! $ move ! (36 ∷ 37 ∷ []) $ free1 ! $ move ! (34 ∷ 35 ∷ []) $ free1 ! $ move ! (32 ∷ 33 ∷ []) $ free1 ! $
         move ! (30 ∷ 31 ∷ []) $ free1 ! $ move ! (28 ∷ 29 ∷ []) $ free1 ! $ move ! (26 ∷ 27 ∷ []) $ free1 ! $ move ! (24 ∷ 25 ∷ []) $ free1 ! $ move ! (22 ∷ 23 ∷ []) $ free1 ! $ move ! (20 ∷ 21 ∷ []) $ free1 ! $
         move ! (18 ∷ 19 ∷ []) $ free1 ! $ move ! (16 ∷ 17 ∷ []) $ free1 ! $ move ! (14 ∷ 15 ∷ []) $ free1 ! $ move ! (12 ∷ 13 ∷ []) $ free1 ! $ move ! (10 ∷ 11 ∷ []) $ free1 ! $ move ! (8 ∷ 9 ∷ []) $ free1 ! $ free0 ! $
-        by ! (exits r gs₃ zs₃ (let y = reads-as ss ls ys es (d₀ .0) ws₁ (d₀ .1 .1 .0) (passFrom (d₁ .0) (ended l₅ ws₁ (d₀ .0) ys es .scratch) gs zs) (d₁ .1 .1) (d₂ .0) (d₂ .1 .1 .0) ws₂ (d₂ .1 .1 .1) (passFrom (d₃ .0) (ended l₅ ws₂ (d₂ .0) gs zs .scratch) gs₃ zs₃) (d₃ .1 .1) (d₀ .1 .1 .1) in (e ∙ y .0, y .1, y .2)) (gl₃ ∙ gl) (el₃ ∙ el) (answered r _ is)))))))))))))))))))))))))))))))))))))))))
+        by ! (exits r gs₃ zs₃ (let y = reads-as ss ls ys es (d₀ .0) ws₁ (d₀ .1 .1 .0) (passFrom (d₁ .0) (ended l₅ ws₁ (d₀ .0) ys es .scratch) gs zs) (d₁ .1 .1) (d₂ .0) (d₂ .1 .1 .0) ws₂ (d₂ .1 .1 .1) (passFrom (d₃ .0) (ended l₅ ws₂ (d₂ .0) gs zs .scratch) gs₃ zs₃) (d₃ .1 .1) (d₀ .1 .1 .1) in record { answer = e ∙ y .0; records = y .1; entries = y .2 }) (gl₃ ∙ gl) (el₃ ∙ el) (answered r _ is)))))))))))))))))))))))))))))))))))))))))
 
 module _ {M : Type 1} (𝓤 : URA M) (H : Heap 𝓤) (A : Atoms 𝓤) (W : Given 𝓤 H A) (mem : Memory → SProp 𝓤) (run : Routine → Fun 𝓤) (𝓣 : Tables 𝓤 H)
     (known-room : Triple 𝓤 (𝓣 .C #read-scratch·room) (Rooms 𝓤 H A mem run)) (known-start : Triple 𝓤 (𝓣 .C #read-setup·start) (Starts 𝓤 H A mem run)) (known-again : Triple 𝓤 (𝓣 .C #read-setup·again) (Agains 𝓤 H A mem run)) (known-answer : Triple 𝓤 (𝓣 .C #read-setup·answer) (Answers 𝓤 H A mem run)) (known-pass : Triple 𝓤 (𝓣 .C #read-pass·pass) (Passes 𝓤 H A mem run)) where

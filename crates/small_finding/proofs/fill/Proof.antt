@@ -41,6 +41,7 @@ use denote.Signature.{plain}
 use Rattle.rules.specs.declared.Record.{Record}
 use Rattle.rules.specs.declared.Finding.{Finding}
 use Rattle.rules.specs.Answers.{Found, findInto, findingOf, recordsFound, hitsOver}
+use Rattle.rules.specs.Calls.{FindCall}
 use Rattle.rules.proofs.Record as TR
 use Rattle.rules.proofs.Record.Laws as TR′
 use Rattle.rules.proofs.Finding as TF
@@ -177,14 +178,14 @@ module _ {M : Type 1} (𝓤 : URA M) (H : Heap 𝓤) (A : Atoms 𝓤) (W : Given
     comes-find ν δ u =
         qed W (raw (Finds 𝓤 H A mem run .post (to-find ν δ) u) ∷ []) ∵ updating ! $
         use1 W (later (some (λ (r : Finding). ((‵ (flft κ₀ q₀) ⊛ ‵ (flft κ₁ q₁) ⊛ ‵ (flft κ₂ q₂) ⊛ ‵ (flft (ν₁ ∷ []) fullShare) ⊛ ‵ (flft (ν ∷ []) fullShare) ⊛ ‵ ftrue) ⊛ ‵ (TF.the-row .own r (u ∷ []))) ⊛ raw (ensured 𝓤 H A find-fn.ended (find-fn.clauses 𝓤 H A mem run) (to-find ν δ .0 .0) (to-find ν δ .0 .3) tt r)))) (id⊢ 𝓤 _) $ await ! tt $ pick ! (λ r.
-        split ! $ move ! (1 ∷ []) $ use1 W (some (λ (z : Lasts find-fn.ended (to-find ν δ .0 .0) (to-find ν δ .0 .3)). ‵ (lasts find-fn.ended (to-find ν δ .0 .0) (to-find ν δ .0 .3) z) ⊛ raw (fact 𝓤 ((r ≡ findingOf (answer (length rs₀))) × (z .1 .1 .1 .0 ≡ given) × (z .1 .1 .1 .1 .0 ≡ hitsOver hs (answer (length rs₀))))))) (id⊢ 𝓤 _) $ pick ! (λ z.
-        split ! $ move ! (1 ∷ []) $ heard ! ((r ≡ findingOf (answer (length rs₀))) × (z .1 .1 .1 .0 ≡ given) × (z .1 .1 .1 .1 .0 ≡ hitsOver hs (answer (length rs₀)))) (λ e.
+        split ! $ move ! (1 ∷ []) $ use1 W (some (λ (z : Lasts find-fn.ended (to-find ν δ .0 .0) (to-find ν δ .0 .3)). ‵ (lasts find-fn.ended (to-find ν δ .0 .0) (to-find ν δ .0 .3) z) ⊛ raw (fact 𝓤 (FindCall ss ls qs rs₀ hs r (z .1 .1 .1 .0) (z .1 .1 .1 .1 .0))))) (id⊢ 𝓤 _) $ pick ! (λ z.
+        split ! $ move ! (1 ∷ []) $ heard ! (FindCall ss ls qs rs₀ hs r (z .1 .1 .1 .0) (z .1 .1 .1 .1 .0)) (λ e.
         fsplit ! $ drop ! $ fsplit ! $ drop ! $ fsplit ! $ drop ! $ fsplit ! $ fsplit ! $ move ! (1 ∷ []) $ drop ! $ move ! (1 ∷ []) $ fsplit ! $ move ! (1 ∷ []) $ drop ! $ fsplit ! $ move ! (1 ∷ []) $ feqL ! (λ len.
         -- [the hits' last list; the records'; the tokens with the result]
-        rewrite ! 1 (λ (x : List Record). ‵ (finally TR.the-row δ₁ x)) (e .1) refl $ move ! (2 ∷ []) $ split ! $ move ! (1 ∷ []) $ peeks ! TF.the-row (Is TF.the-row) (shows 𝓤 H A TF.the-row) r (u ∷ []) (λ is. drop ! $
+        rewrite ! 1 (λ (x : List Record). ‵ (finally TR.the-row δ₁ x)) (e .records) refl $ move ! (2 ∷ []) $ split ! $ move ! (1 ∷ []) $ peeks ! TF.the-row (Is TF.the-row) (shows 𝓤 H A TF.the-row) r (u ∷ []) (λ is. drop ! $
         split ! $ move ! (1 ∷ []) $ split ! $ move ! (1 ∷ []) $ split ! $ move ! (1 ∷ []) $ split ! $ move ! (1 ∷ []) $ split ! $
         -- [ν; true; ν₁; q's token; list's token; s's token; the hits' last list; the records']
-        at-once ! $ show ! (Left 𝓤 H A W u32 κ₃ q₃ γ₃ b₃ o₃ hs hv (Finds 𝓤 H A mem run) to-find find-asks find-back found ν δ u) (z .1 .1 .1 .1 .0) $ says ! (len, (r, (is, (len, (e .0, e .2))))) $
+        at-once ! $ show ! (Left 𝓤 H A W u32 κ₃ q₃ γ₃ b₃ o₃ hs hv (Finds 𝓤 H A mem run) to-find find-asks find-back found ν δ u) (z .1 .1 .1 .1 .0) $ says ! (len, (r, (is, (len, (e .answer, e .hits))))) $
         frame ! $ move ! (5 ∷ []) $ frame ! $ move ! (1 ∷ 5 ∷ []) $ join ! $ frame ! $ move ! (3 ∷ []) $ frame ! $ move ! (2 ∷ []) $ frame ! $ move ! (1 ∷ 0 ∷ []) $ frame ! $ done !)))))
 
   module _ (𝓣 : Tables 𝓤 H) (known-no-record : Triple 𝓤 (𝓣 .C #small-row·no-record) (NoRecord 𝓤 H A mem run)) (known-find : Triple 𝓤 (𝓣 .C #find·find) (Finds 𝓤 H A mem run)) (s-fits : length ss < 2 ^ 64) (l-fits : length ls < 2 ^ 64) (q-fits : length qs < 2 ^ 64) (h-room : Room u32 (length hs)) where

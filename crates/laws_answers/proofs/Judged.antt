@@ -16,9 +16,9 @@ use Rattle.rules.specs.Find.{Wanted, hitsFrom, wellFormed, query}
 use Rattle.rules.specs.Answers.{streamMost, isOver, read, isAccepted, readInto, notSpelled, spelled, spellWith, respell, respellInto, Found, notFound, found, keyOf, find, foundIn, findInto, lengthOf, judgingOf, judge}
 use Rattle.laws.proofs.Cases.{on, no}
 use Rattle.laws_find.specs.Occurs.{Elem, Above}
-use Rattle.demands.specs.Statements.{Accepted, rowsIn, Exact, Judged}
-use Rattle.demands.proofs.Theorems.{exactness, answered, queryText, roomy}
-use Rattle.demands.proofs.Numbers.{numbers}
+use Rattle.laws_answers.specs.Statements.{Accepted, rowsIn, Exact, Judged}
+use Rattle.laws_answers.proofs.Theorems.{exactness, answered, queryText, roomy}
+use Rattle.laws_answers.proofs.Numbers.{numbers}
 
 -- ---- the judge's answer taken apart
 

@@ -35,7 +35,7 @@ use Rattle.laws_find.proofs.Asked.{query-shape, shape-some}
 use Rattle.laws_find.proofs.Written.{written-read, read-written, query-short, names-some}
 use Rattle.laws_scan.proofs.Fair.{commands-good}
 use Rattle.laws_scan.proofs.Names.{AllRows, RowIn, RowsOf, read-stands}
-use Rattle.demands.specs.Statements.{Accepted, glyphsIn, rowsIn, itemsIn, pagesIn, endIn, glyphPaintIn, fillPaintIn, SameReading, ReadAgain, RoundTrip, FixedPoint, Exact, Exactness, Told, refusedAt, listed, told, cmdsOf, actsOf, houseText, OneSpelling, Answered, QueryText, OneByte, Roomy, Limits, ByOutline, single, ByAnyCommand, nameIn, NamesIn, NamesOf, NamesStand, Alike, Likeness}
+use Rattle.laws_answers.specs.Statements.{Accepted, glyphsIn, rowsIn, itemsIn, pagesIn, endIn, glyphPaintIn, fillPaintIn, SameReading, ReadAgain, RoundTrip, FixedPoint, Exact, Exactness, Told, refusedAt, listed, told, cmdsOf, actsOf, houseText, OneSpelling, Answered, QueryText, OneByte, Roomy, Limits, ByOutline, single, ByAnyCommand, nameIn, NamesIn, NamesOf, NamesStand, Alike, Likeness}
 
 -- ---- an accepted stream
 

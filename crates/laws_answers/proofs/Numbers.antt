@@ -19,7 +19,7 @@ use Rattle.rules.specs.Record.{GlyphRow, ItemRow, Answer, refuse, answer, after
 use Rattle.rules.specs.Find.{Wanted, Query, illFormed, wellFormed, query}
 use Rattle.rules.specs.Answers.{streamMost, isOver, readWith, read, roomFor, readInto, Spelling, notSpelled, spelled, spellIf, spellWith, respell, spellingIn, respellInto, Found, notFound, found, hitsIn, findAsked, findWith, find, foundIn, findInto}
 use Rattle.laws.proofs.Cases.{if-both}
-use Rattle.demands.specs.Statements.{Numbers}
+use Rattle.laws_answers.specs.Statements.{Numbers}
 
 abbrev UpTo : ℕ → ℕ → Type 0
 UpTo m n = (1 ≤ n) × (n ≤ m)

@@ -1,0 +1,145 @@
+-- What 01 allows is what the rules read: `Allowed` and `read` say the same.
+use Prim.Native.Nat.{ℕ, zero, suc, _+_, _-_, _<_, _≤_}
+use native.Mathlib.Omega.{arith}
+use mathlib.Core.Bool.{Bool, true, false}
+use mathlib.Core.List.{List, [], _∷_, _++_, map}
+use mathlib.Core.Path.{_≡_, refl, sym, ap, ap₂, subst, _∙_}
+use lib.Dec.{ltb, eqb}
+use lib.ListN.{length, drop}
+use borrow.Author.Tests.{ltb-false, le-ltb, eqb-true}
+use Rattle.rules.specs.Bytes.{if_then_else_, is, isWhite, isNotNewline, oneLine}
+use Rattle.rules.specs.Act.{Cmd}
+use Rattle.rules.specs.Scan.{Scan, got, bad, command, Cmds, done, wrong, next, oneCommand, commands, bare}
+use Rattle.rules.specs.Widths.{Widths, sound, widthList}
+use Rattle.rules.specs.State.{Env, Glyph, Item, Step, refused, went, start, steps, stopped}
+use Rattle.rules.specs.Record.{GlyphRow, ItemRow, Answer, refuse, answer, follow, seen}
+use Rattle.rules.specs.Answers.{streamMost, isOver, read, isAccepted}
+use Rattle.laws.proofs.Cases.{on, no}
+use Rattle.laws.proofs.Good.{Ended}
+use Rattle.laws_scan.proofs.Bounds.{span-le, command-within}
+use Rattle.laws_scan.proofs.Walk.{commands-drop}
+use Rattle.laws_read.proofs.Placed.{finish, finish-well, seen-follow, seen-goes, didGo, ended as ended-of}
+use Rattle.laws_answers.specs.Statements.{cmdsOf}
+use Rattle.laws_answers.specs.Statements as T
+use Rattle.laws_answers.proofs.Theorems.{SoundInputs, sound-of, read-follow, read-says, all-well}
+use Rattle.laws_read.proofs.Runs.{well}
+use Rattle.demands.specs.Demands.{SoundList, ConsistsOf, ended, white, comment, one, Allowed, Accepted}
+
+-- ---- the commands that a stream consists of are those that are read
+
+hash-not-white : (b : ℕ) → is "#" b ≡ true → isWhite b ≡ false
+hash-not-white b h = rw (eqb-true b 35 h)
+
+abbrev Reads : List ℕ → List Cmd → ℕ → Type 0
+Reads s cs at = Ended (commands at 0 s) × (bare (commands at 0 s) ≡ cs)
+
+pub consists-read : (s : List ℕ) (cs : List Cmd) → ConsistsOf s cs → (at : ℕ) → Reads s cs at
+unfolding commands
+consists-read s cs ended at = (tt, refl)
+consists-read s cs (white b r cs′ h c) at = rw h (consists-read r cs′ c (at + 1))
+consists-read s cs (comment b r cs′ h c) at =
+    rw (hash-not-white b h, h, commands-drop (oneLine r) (at + 1) r (span-le isNotNewline r)) (consists-read (drop (oneLine r) r) cs′ c (at + 1 + oneLine r))
+consists-read s cs (one b r d a l cs′ w h e c) at =
+    let z : (1 ≤ l) × (l ≤ suc (length r)) × (a ≤ l) = command-within b r d a l e in
+    let y : Reads (drop (l - 1) r) cs′ (at + 1 + (l - 1)) = consists-read (drop (l - 1) r) cs′ c (at + 1 + (l - 1)) in
+    rw (w, h, e, commands-drop (l - 1) (at + 1) r (omega (arith, z))) (y .0, ap (λ (k : List Cmd). d ∷ k) (y .1))
+
+read-consists : (s : List ℕ) (at k : ℕ) → k ≤ length s → Ended (commands at k s) → ConsistsOf (drop k s) (bare (commands at k s))
+unfolding commands
+read-consists [] at zero l h = ended
+read-consists [] at (suc k) l h = absurd (omega arith)
+read-consists (b ∷ r) at (suc k) l h = read-consists r (at + 1) k (omega arith) h
+read-consists (b ∷ r) at zero l h =
+    on (isWhite b) (λ w. rw w (white b r (bare (commands (at + 1) 0 r)) w (read-consists r (at + 1) 0 (omega arith) (rw w at h))))
+    (λ w. on (is "#" b)
+    (λ p. rw (w, p) (comment b r (bare (commands (at + 1) (oneLine r) r)) p (read-consists r (at + 1) (oneLine r) (span-le isNotNewline r) (rw (w, p) at h))))
+    (λ p. rw (w, p) (go w p (λ j m g. read-consists r (at + 1) j m g) (command b r) refl (rw (w, p) at h))))
+  where
+    go : isWhite b ≡ false → is "#" b ≡ false → ((j : ℕ) → j ≤ length r → Ended (commands (at + 1) j r) → ConsistsOf (drop j r) (bare (commands (at + 1) j r))) → (x : Scan) → command b r ≡ x → Ended (oneCommand at (λ j. commands (at + 1) j r) x) → ConsistsOf (b ∷ r) (bare (oneCommand at (λ j. commands (at + 1) j r) x))
+    go w p f (bad n j) e g = absurd g
+    go w p f (got c a j) e g =
+        let z : (1 ≤ j) × (j ≤ suc (length r)) × (a ≤ j) = command-within b r c a j e in
+        one b r c a j (bare (commands (at + 1) (j - 1) r)) w p e (f (j - 1) (omega (arith, z)) g)
+
+-- ---- what is allowed is read
+
+-- the rules read these glyphs, drawings and controls, and end there
+pub record ReadsTo (s list : List ℕ) (end : Env) (gs : List Glyph) (xs : List Item) : Type 0 where
+  pub rows : List GlyphRow
+  pub items : List ItemRow
+  pub read-is : read s list ≡ answer rows items end
+  pub glyphs-are : map (λ (r : GlyphRow). r .glyph) rows ≡ gs
+  pub items-are : map (λ (x : ItemRow). x .item) items ≡ xs
+
+abbrev envOf : Env → Step → Env
+envOf d (refused n) = d
+envOf d (went e gs xs) = e
+
+abbrev glyphsOf : Step → List Glyph
+glyphsOf (refused n) = []
+glyphsOf (went e gs xs) = gs
+
+abbrev itemsOf : Step → List Item
+itemsOf (refused n) = []
+itemsOf (went e gs xs) = xs
+
+module _ (s list : List ℕ) (end : Env) (gs : List Glyph) (xs : List Item) where
+  pub reads-to : (x : Answer) → read s list ≡ x → seen x ≡ went end gs xs → ReadsTo s list end gs xs
+  reads-to (refuse n at) h e = no (ap didGo e)
+  reads-to (answer rows items d) h e = record {
+    rows = rows;
+    items = items;
+    read-is = h ∙ ap (answer rows items) (ap (envOf d) e);
+    glyphs-are = ap glyphsOf e;
+    items-are = ap itemsOf e;
+  }
+
+  module _ (w : Widths) (l : SoundList list w) (a : Allowed s w end gs xs) where
+    abbrev inputs : SoundInputs s list
+    inputs = record { widths = w; list-sound = l .says; stream-short = le-ltb streamMost (length s) (a .short); list-short = le-ltb 65_536 (length list) (l .short) }
+
+    pub commands-are : cmdsOf s ≡ a .commands
+    commands-are = consists-read s (a .commands) (a .consists) 0 .1
+
+    follows : seen (follow w start (commands 0 0 s)) ≡ went end gs xs
+    follows =
+        seen-follow w (commands 0 0 s) start (consists-read s (a .commands) (a .consists) 0 .0)
+        ∙ ap (λ (cs : List Cmd). finish (steps w start cs)) commands-are
+        ∙ ap finish (a .performed)
+        ∙ finish-well (went end gs xs) (a .ended)
+
+    pub allowed-reads : ReadsTo s list end gs xs
+    allowed-reads = reads-to (read s list) refl (ap seen (read-follow s list inputs) ∙ follows)
+
+    pub allowed-accepted : T.Accepted s list
+    allowed-accepted = ap isAccepted (allowed-reads .read-is)
+
+-- ---- what is read is allowed
+
+pub record Stream (s list : List ℕ) (end : Env) (gs : List Glyph) (xs : List Item) : Type 0 where
+  pub widths : Widths
+  pub list-sound : SoundList list widths
+  pub allowed : Allowed s widths end gs xs
+  pub commands-of : allowed .commands ≡ cmdsOf s
+
+module _ (s list : List ℕ) (rows : List GlyphRow) (items : List ItemRow) (e : Env) (h : read s list ≡ answer rows items e) where
+  pub read-allowed : Stream s list e (map (λ (r : GlyphRow). r .glyph) rows) (map (λ (x : ItemRow). x .item) items)
+  read-allowed = go (sound-of s list (ap isAccepted h))
+    where
+      go : SoundInputs s list → Stream s list e (map (λ (r : GlyphRow). r .glyph) rows) (map (λ (x : ItemRow). x .item) items)
+      go z =
+          let accepted : T.Accepted s list = ap isAccepted h in
+          let steps-are : steps (z .widths) start (cmdsOf s) ≡ went e (map (λ (r : GlyphRow). r .glyph) rows) (map (λ (x : ItemRow). x .item) items) = sym (read-says s list z accepted) ∙ ap seen h in
+          let at-end : isAccepted (follow (z .widths) start (commands 0 0 s)) ≡ true = rw (read-follow s list z) at accepted in
+          record {
+            widths = z .widths;
+            list-sound = record { short = ltb-false 65_536 (length list) (z .list-short); says = z .list-sound };
+            allowed = record {
+              short = ltb-false streamMost (length s) (z .stream-short);
+              commands = cmdsOf s;
+              consists = read-consists s 0 0 (omega arith) (ended-of (z .widths) (commands 0 0 s) start at-end);
+              performed = steps-are;
+              ended = subst (λ (x : Step). well x ≡ true) steps-are (all-well s list z accepted);
+            };
+            commands-of = refl;
+          }

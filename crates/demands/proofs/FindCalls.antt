@@ -1,0 +1,367 @@
+-- The demands, proved of calls of the finder.
+use Prim.Native.Nat.{ℕ, _+_, _<_, _≤_}
+use native.Mathlib.Omega.{arith}
+use mathlib.Core.Bool.{true, false, _||_}
+use mathlib.Core.List.{List, [], _∷_, _++_, map, map-map}
+use mathlib.Core.Logic.{_⊎_, inl, inr}
+use mathlib.Core.Path.{_≡_, refl, sym, ap, ap₂, subst, _∙_}
+use lib.Dec.{ltb}
+use lib.ListN.{length, take, drop, length-map}
+use borrow.Author.Tests.{ltb-true, ltb-false, lt-ltb, le-ltb}
+use Rattle.rules.specs.declared.Record.{Record}
+use Rattle.rules.specs.declared.Finding.{Finding}
+use Rattle.rules.specs.declared.Finding.the-variants as F
+use Rattle.rules.specs.Act.{Act, glyph, to, by, Cmd, just, word, pair}
+use Rattle.rules.specs.State.{Env, Glyph, Item}
+use Rattle.rules.specs.Record.{GlyphRow, ItemRow, Answer, refuse, answer, recordOf, over}
+use Rattle.rules.specs.Find.{Wanted, Key, key, query, wellFormed, hitsFrom}
+use Rattle.rules.specs.Answers.{isOver, read, isAccepted, Found, notFound, found, keyOf, find, foundIn, findInto, findingOf, recordsFound, hitsOver}
+use Rattle.rules.specs.Calls.{FindCall}
+use Rattle.laws.proofs.Cases.{on, no, or-true}
+use Rattle.laws_read.specs.Outline.{Sign, byteSign, signsOf, outline, keysFrom}
+use Rattle.laws_find.specs.Occurs.{OccursAt, Elem, Above, Rising}
+use Rattle.laws_find.specs.Written.{written, GoodQuery}
+use Rattle.laws_find.proofs.Exact.{hits-rise, hits-occur, occurs-hits}
+use Rattle.laws_answers.specs.Statements.{rowsIn, cmdsOf, Exact}
+use Rattle.laws_answers.specs.Statements as T
+use Rattle.laws_answers.proofs.Theorems.{keysIn, keys-by-outline, exactness, answered, queryText, roomy, byAnyCommand}
+use Rattle.laws_answers.proofs.Numbers.{numbers}
+use Rattle.demands.specs.Demands.{Allowed, Accepted, recorded, set, WellFormed, ListOf, FoundAll, SetBy, none, c-or-C, t-or-u, two-digits, Motion, to-place, by-way, SetOtherwise, ended, same, otherwise, moved, moved₂, FiveForms, SameList, Alike}
+use Rattle.demands.proofs.Allowed.{ReadsTo, allowed-reads, allowed-accepted, commands-are, Stream, read-allowed}
+use Rattle.demands.proofs.ReadCalls.{take-over, drop-over, length-over, glyphs-seen, rows-stand}
+
+abbrev glyphsIn : List GlyphRow → List Glyph
+glyphsIn rs = map (λ (r : GlyphRow). r .glyph) rs
+
+-- ---- the list: there is one, and one alone
+
+above-all : (n : ℕ) (xs : List ℕ) (i : ℕ) → Above n xs → Elem i xs → n ≤ i
+above-all n [] i h e = absurd e
+above-all n (x ∷ xs) i h (inl e) = omega (arith, h .0, e)
+above-all n (x ∷ xs) i h (inr e) = omega (arith, h .0, above-all (x + 1) xs i (h .1) e)
+
+one-rising : (n : ℕ) (xs ys : List ℕ) → Above n xs → Above n ys → ((i : ℕ) → Elem i xs → Elem i ys) → ((i : ℕ) → Elem i ys → Elem i xs) → xs ≡ ys
+one-rising n [] [] h k f g = refl
+one-rising n [] (y ∷ ys) h k f g = absurd (g y (inl refl))
+one-rising n (x ∷ xs) [] h k f g = absurd (f x (inl refl))
+one-rising n (x ∷ xs) (y ∷ ys) h k f g = ap₂ (λ (a : ℕ) (l : List ℕ). a ∷ l) heads (one-rising (x + 1) xs ys (h .1) (subst (λ (a : ℕ). Above (a + 1) ys) (sym heads) (k .1)) left right)
+  where
+    below : (a b : ℕ) (l : List ℕ) → Above (b + 1) l → Elem a (b ∷ l) → b ≤ a
+    below a b l p (inl e) = omega (arith, e)
+    below a b l p (inr e) = omega (arith, above-all (b + 1) l a p e)
+
+    heads : x ≡ y
+    heads = omega (arith, below x y ys (k .1) (f x (inl refl)), below y x xs (h .1) (g y (inl refl)))
+
+    rest : (i b : ℕ) (l : List ℕ) → b + 1 ≤ i → Elem i (b ∷ l) → Elem i l
+    rest i b l p (inl e) = absurd (omega (arith, e, p))
+    rest i b l p (inr e) = e
+
+    left : (i : ℕ) → Elem i xs → Elem i ys
+    left i e = rest i y ys (let z : x + 1 ≤ i = above-all (x + 1) xs i (h .1) e in omega (arith, z, heads)) (f i (inr e))
+
+    right : (i : ℕ) → Elem i ys → Elem i xs
+    right i e = rest i x xs (let z : y + 1 ≤ i = above-all (y + 1) ys i (k .1) e in omega (arith, z, heads)) (g i (inr e))
+
+pub one-list : (qs : List Wanted) (gs : List Glyph) (xs ys : List ℕ) → ListOf qs gs xs → ListOf qs gs ys → xs ≡ ys
+one-list qs gs xs ys a b =
+    one-rising 0 xs ys (a .each-once-earliest-first) (b .each-once-earliest-first) (λ i e. b .every i (a .no-other i e)) (λ i e. a .every i (b .no-other i e))
+
+abbrev hitsOf : List Wanted → List Glyph → List ℕ
+hitsOf qs gs = hitsFrom qs 0 (map key gs)
+
+hits-list : (qs : List Wanted) (gs : List Glyph) → GoodQuery qs → ListOf qs gs (hitsOf qs gs)
+hits-list qs gs g = record {
+  every = λ i o. occurs-hits qs (map key gs) i (let z : 1 ≤ length qs = g .some in omega (arith, z)) o;
+  no-other = λ i e. hits-occur qs (map key gs) i e;
+  each-once-earliest-first = hits-rise qs (map key gs);
+}
+
+pub some-list : (qs : List Wanted) (gs : List Glyph) → GoodQuery qs → (is : List ℕ) × ListOf qs gs is
+some-list qs gs g = (hitsOf qs gs, hits-list qs gs g)
+
+-- the list goes by names, gap marks and page ordinals
+list-by-keys : (qs : List Wanted) (gs gs₂ : List Glyph) (is : List ℕ) → map key gs ≡ map key gs₂ → ListOf qs gs is → ListOf qs gs₂ is
+list-by-keys qs gs gs₂ is e l = record {
+  every = λ i o. l .every i (subst (λ (ks : List Key). OccursAt qs ks i) (sym e) o);
+  no-other = λ i m. subst (λ (ks : List Key). OccursAt qs ks i) e (l .no-other i m);
+  each-once-earliest-first = l .each-once-earliest-first;
+}
+
+keys-rows : (rs : List GlyphRow) → map keyOf rs ≡ map key (glyphsIn rs)
+keys-rows rs = sym (map-map key (λ (r : GlyphRow). r .glyph) rs)
+
+-- ---- what is answered with the room lent
+
+abbrev recordsIn : Finding → ℕ
+recordsIn (F.Accepted n k) = n
+recordsIn (F.Refused n at) = 0
+
+abbrev hitsCount : Finding → ℕ
+hitsCount (F.Accepted n k) = k
+hitsCount (F.Refused n at) = 0
+
+abbrev IsFound : Finding → Type 0
+IsFound (F.Accepted n k) = Unit {0}
+IsFound (F.Refused n at) = ⊥
+
+abbrev Kept : ℕ → ℕ → Found → Found → Type 0
+Kept records hits y (notFound n at) = (y ≡ notFound n at) ⊎ ((n ≡ 13) × (at ≡ 0) × (gs : List GlyphRow) × (is : List ℕ) × (y ≡ found gs is) × ((records < length gs) ⊎ (hits < length is)))
+Kept records hits y (found gs is) = (y ≡ found gs is) × (length gs ≤ records) × (length is ≤ hits)
+
+kept : (records hits : ℕ) (y : Found) → Kept records hits y (foundIn records hits y)
+kept records hits (notFound n at) = inl refl
+kept records hits (found gs is) =
+    on (ltb records (length gs)) (λ e. rw e (inr (refl, refl, gs, is, refl, inl (ltb-true records (length gs) e))))
+    (λ e. on (ltb hits (length is)) (λ f. rw (e, f) (inr (refl, refl, gs, is, refl, inr (ltb-true hits (length is) f))))
+    (λ f. rw (e, f) (refl, ltb-false records (length gs) e, ltb-false hits (length is) f)))
+
+pub kept-into : (records hits : ℕ) (s list q : List ℕ) → Kept records hits (find s list q) (findInto records hits s list q)
+unfolding findInto
+kept-into records hits s list q = kept records hits (find s list q)
+
+-- ---- what the rules find in an accepted stream
+
+-- an accepted stream's rows
+accepted-reads : (s list : List ℕ) (gs : List Glyph) (a : Accepted s list gs) → ReadsTo s list (a .end) gs (a .items)
+accepted-reads s list gs a = allowed-reads s list (a .end) gs (a .items) (a .widths) (a .list-sound) (a .allowed)
+
+-- the rules find these rows and this list
+pub record Finds (s list q : List ℕ) (gs : List Glyph) (is : List ℕ) : Type 0 where
+  pub rows : List GlyphRow
+  pub found-is : find s list q ≡ found rows is
+  pub glyphs-are : glyphsIn rows ≡ gs
+  pub stand : map (recorded s) (map recordOf rows) ≡ map set gs
+
+finds : (s list q : List ℕ) (gs : List Glyph) (qs : List Wanted) (is : List ℕ) → Accepted s list gs → WellFormed q qs → ListOf qs gs is → Finds s list q gs is
+finds s list q gs qs is a w l = record {
+  rows = to .rows;
+  found-is = answered .accepted s list q qs accepted asked short ∙ rw (ap rowsIn (to .read-is)) (ap (found (to .rows)) list-is);
+  glyphs-are = to .glyphs-are;
+  stand = glyphs-seen s (to .rows) (rows-stand s list (to .rows) (to .items) (a .end) (to .read-is)) ∙ ap (map set) (to .glyphs-are);
+}
+  where
+    to : ReadsTo s list (a .end) gs (a .items)
+    to = accepted-reads s list gs a
+
+    accepted : T.Accepted s list
+    accepted = allowed-accepted s list (a .end) gs (a .items) (a .widths) (a .list-sound) (a .allowed)
+
+    asked : query q ≡ wellFormed qs
+    asked = ap query (w .text) ∙ queryText .asks qs (w .good)
+
+    short : isOver 8_192 q ≡ false
+    short = le-ltb 8_192 (length q) (queryText .short q qs asked)
+
+    list-is : hitsFrom qs 0 (map keyOf (to .rows)) ≡ is
+    list-is = ap (hitsFrom qs 0) (keys-rows (to .rows) ∙ ap (map key) (to .glyphs-are)) ∙ one-list qs gs (hitsOf qs gs) is (hits-list qs gs (w .good)) l
+
+count-rows : (gs : List Glyph) (rows : List GlyphRow) → glyphsIn rows ≡ gs → length rows ≡ length gs
+count-rows gs rows e = sym (length-map rows (λ (r : GlyphRow). r .glyph)) ∙ ap length e
+
+-- ---- a call
+
+module _ (s list q : List ℕ) (rs : List Record) (hs : List ℕ) (r : Finding) (rs′ : List Record) (hs′ : List ℕ) (c : FindCall s list q rs hs r rs′ hs′) where
+  pub lengths : (length rs′ ≡ length rs) × (length hs′ ≡ length hs)
+  lengths = go (findInto (length rs) (length hs) s list q) (kept-into (length rs) (length hs) s list q) (c .records) (c .hits)
+    where
+      go : (x : Found) → Kept (length rs) (length hs) (find s list q) x → rs′ ≡ recordsFound rs x → hs′ ≡ hitsOver hs x → (length rs′ ≡ length rs) × (length hs′ ≡ length hs)
+      go (notFound n at) k a b = (ap length a, ap length b)
+      go (found gs is) k a b = (ap length a ∙ length-over (map recordOf gs) rs (omega (arith, length-map gs recordOf, k .1)), ap length b ∙ length-over is hs (k .2))
+
+  -- what the rules found is in the rows
+  found-all : (gs : List Glyph) (is : List ℕ) (f : Finds s list q gs is) → findInto (length rs) (length hs) s list q ≡ found (f .rows) is → FoundAll s rs hs gs is r rs′ hs′
+  found-all gs is f e =
+      let n : length gs ≡ length (map recordOf (f .rows)) = sym (count-rows gs (f .rows) (f .glyphs-are)) ∙ sym (length-map (f .rows) recordOf) in
+      let rows : rs′ ≡ over (map recordOf (f .rows)) rs = c .records ∙ ap (recordsFound rs) e in
+      let hits : hs′ ≡ over is hs = c .hits ∙ ap (hitsOver hs) e in
+      record {
+        list = take-over (length is) is hs hs′ refl hits;
+        numbers = c .answer ∙ ap findingOf e ∙ ap (λ (i : ℕ). F.Accepted i (length is)) (count-rows gs (f .rows) (f .glyphs-are));
+        records = ap (map (recorded s)) (take-over (length gs) (map recordOf (f .rows)) rs rs′ n rows) ∙ f .stand;
+        list-behind = drop-over (length is) is hs hs′ refl hits;
+        records-behind = drop-over (length gs) (map recordOf (f .rows)) rs rs′ n rows;
+      }
+
+  module _ (gs : List Glyph) (qs : List Wanted) (is : List ℕ) (a : Accepted s list gs) (w : WellFormed q qs) (l : ListOf qs gs is) where
+    abbrev these : Finds s list q gs is
+    these = finds s list q gs qs is a w l
+
+    pub answers : length gs ≤ length rs → length is ≤ length hs → FoundAll s rs hs gs is r rs′ hs′
+    answers p k =
+        found-all gs is these
+        (roomy .finder (length rs) (length hs) s list q (these .rows) is (these .found-is) (omega (arith, count-rows gs (these .rows) (these .glyphs-are), p)) k)
+
+    short-in : (length rs < length gs) ⊎ (length hs < length is) → foundIn (length rs) (length hs) (found (these .rows) is) ≡ notFound 13 0
+    short-in (inl h) = rw (lt-ltb (length rs) (length (these .rows)) (omega (arith, count-rows gs (these .rows) (these .glyphs-are), h)))
+    short-in (inr h) = rw (or-true (ltb (length rs) (length (these .rows))) (ltb (length hs) (length is)) (lt-ltb (length hs) (length is) h))
+
+    pub no-room : (length rs < length gs) ⊎ (length hs < length is) → r ≡ F.Refused 13 0
+    unfolding findInto
+    no-room h = c .answer ∙ ap (λ (x : Found). findingOf (foundIn (length rs) (length hs) x)) (these .found-is) ∙ ap findingOf (short-in h)
+
+-- ---- what is found was accepted and well formed
+
+pub record Source (s list q : List ℕ) (is : List ℕ) : Type 0 where
+  pub glyphs : List Glyph
+  pub wanted : List Wanted
+  pub accepted : Accepted s list glyphs
+  pub well-formed : WellFormed q wanted
+  pub list-of : ListOf wanted glyphs is
+
+pub source : (s list q : List ℕ) (rows : List GlyphRow) (is : List ℕ) → find s list q ≡ found rows is → (x : Source s list q is) × (x .glyphs ≡ glyphsIn rows)
+source s list q rows is h = go (read s list) refl (exactness s list q rows is h)
+  where
+    go : (x : Answer) → read s list ≡ x → Exact s list q rows is → (y : Source s list q is) × (y .glyphs ≡ glyphsIn rows)
+    go (refuse n at) e z = no (rw e at (z .accepted))
+    go (answer rs xs d) e z =
+        let rows-are : rs ≡ rows = sym (ap rowsIn e) ∙ z .records in
+        let y : Stream s list d (glyphsIn rs) (map (λ (x : ItemRow). x .item) xs) = read-allowed s list rs xs d e in
+        let keys : map keyOf rows ≡ map key (glyphsIn rs) = keys-rows rows ∙ ap (λ (l : List GlyphRow). map key (glyphsIn l)) (sym rows-are) in
+        let text : (q ≡ written (z .glyphs)) × GoodQuery (z .glyphs) = queryText .only q (z .glyphs) (z .asked) in
+        (record {
+          glyphs = glyphsIn rs;
+          wanted = z .glyphs;
+          accepted = record { widths = y .widths; list-sound = y .list-sound; end = d; items = map (λ (x : ItemRow). x .item) xs; allowed = y .allowed };
+          well-formed = record { text = text .0; good = text .1 };
+          list-of = record {
+            every = λ i o. z .every i (subst (λ (ks : List Key). OccursAt (z .glyphs) ks i) (sym keys) o);
+            no-other = λ i m. subst (λ (ks : List Key). OccursAt (z .glyphs) ks i) keys (z .only i m);
+            each-once-earliest-first = z .rising;
+          };
+        }, ap glyphsIn rows-are)
+
+module _ (s list q : List ℕ) (rs : List Record) (hs : List ℕ) (n k : ℕ) (rs′ : List Record) (hs′ : List ℕ) (c : FindCall s list q rs hs (F.Accepted n k) rs′ hs′) where
+  pub only-found : (gs : List Glyph) × (qs : List Wanted) × (is : List ℕ) × Accepted s list gs × WellFormed q qs × ListOf qs gs is × FoundAll s rs hs gs is (F.Accepted n k) rs′ hs′
+  only-found = go (findInto (length rs) (length hs) s list q) (kept-into (length rs) (length hs) s list q) (c .answer)
+    where
+      go : (x : Found) → Kept (length rs) (length hs) (find s list q) x → F.Accepted n k ≡ findingOf x
+          → (gs : List Glyph) × (qs : List Wanted) × (is : List ℕ) × Accepted s list gs × WellFormed q qs × ListOf qs gs is × FoundAll s rs hs gs is (F.Accepted n k) rs′ hs′
+      go (notFound m at) f a = absurd (subst IsFound a tt)
+      go (found rows is) f a =
+          let y : (x : Source s list q is) × (x .glyphs ≡ glyphsIn rows) = source s list q rows is (f .0) in
+          let x : Source s list q is = y .0 in
+          let m : length (x .glyphs) ≡ length rows = ap length (y .1) ∙ length-map rows (λ (r : GlyphRow). r .glyph) in
+          (x .glyphs, x .wanted, is, x .accepted, x .well-formed, x .list-of, answers s list q rs hs (F.Accepted n k) rs′ hs′ c (x .glyphs) (x .wanted) is (x .accepted) (x .well-formed) (x .list-of) (omega (arith, m, f .1)) (f .2))
+
+-- ---- a refusal
+
+module _ (s list q : List ℕ) (rs : List Record) (hs : List ℕ) (rs′ : List Record) (hs′ : List ℕ) (number at : ℕ) (c : FindCall s list q rs hs (F.Refused number at) rs′ hs′) where
+  refused-is : (x : Found) → findInto (length rs) (length hs) s list q ≡ x → Kept (length rs) (length hs) (find s list q) x → F.Refused number at ≡ findingOf x → rs′ ≡ recordsFound rs x → hs′ ≡ hitsOver hs x
+      → (findInto (length rs) (length hs) s list q ≡ notFound number at) × (rs′ ≡ rs) × (hs′ ≡ hs) × Kept (length rs) (length hs) (find s list q) (notFound number at)
+  refused-is (notFound n k) e g a b d =
+      let i : notFound n k ≡ notFound number at = ap refusalOf (sym a) in (e ∙ i, b, d, subst (Kept (length rs) (length hs) (find s list q)) i g)
+    where
+      refusalOf : Finding → Found
+      refusalOf (F.Accepted n k) = notFound 0 0
+      refusalOf (F.Refused k at) = notFound k at
+  refused-is (found gs is) e g a b d = absurd (subst IsFound (sym a) tt)
+
+  refused-call : (findInto (length rs) (length hs) s list q ≡ notFound number at) × (rs′ ≡ rs) × (hs′ ≡ hs) × Kept (length rs) (length hs) (find s list q) (notFound number at)
+  refused-call = refused-is (findInto (length rs) (length hs) s list q) refl (kept-into (length rs) (length hs) s list q) (c .answer) (c .records) (c .hits)
+
+  pub leaves : (rs′ ≡ rs) × (hs′ ≡ hs)
+  leaves = let z = refused-call in (z .1, z .2)
+
+  pub refused-into : findInto (length rs) (length hs) s list q ≡ notFound number at
+  refused-into = refused-call .0
+
+  pub number-in : (1 ≤ number) × (number ≤ 13)
+  number-in = numbers .finder (length rs) (length hs) s list q number at refused-into
+
+  pub refused-kept : Kept (length rs) (length hs) (find s list q) (notFound number at)
+  refused-kept = refused-call .3
+
+pub only-no-room : (s list q : List ℕ) (rs : List Record) (hs : List ℕ) (at : ℕ) (rs′ : List Record) (hs′ : List ℕ) → FindCall s list q rs hs (F.Refused 13 at) rs′ hs′
+    → (gs : List Glyph) × (qs : List Wanted) × (is : List ℕ) × Accepted s list gs × WellFormed q qs × ListOf qs gs is × ((length rs < length gs) ⊎ (length hs < length is))
+only-no-room s list q rs hs at rs′ hs′ c = go (refused-kept s list q rs hs rs′ hs′ 13 at c)
+  where
+    go : Kept (length rs) (length hs) (find s list q) (notFound 13 at)
+        → (gs : List Glyph) × (qs : List Wanted) × (is : List ℕ) × Accepted s list gs × WellFormed q qs × ListOf qs gs is × ((length rs < length gs) ⊎ (length hs < length is))
+    go (inl e) = absurd (omega (arith, numbers .find-up-to-12 s list q 13 at e))
+    go (inr (e, z, rows, is, f, less)) =
+        let y : (x : Source s list q is) × (x .glyphs ≡ glyphsIn rows) = source s list q rows is f in
+        let x : Source s list q is = y .0 in
+        let m : length (x .glyphs) ≡ length rows = ap length (y .1) ∙ length-map rows (λ (r : GlyphRow). r .glyph) in
+        (x .glyphs, x .wanted, is, x .accepted, x .well-formed, x .list-of, rw m less)
+
+-- ---- two calls
+
+module _ (s list s₂ list₂ q : List ℕ) (rs rs₂ : List Record) (hs hs₂ : List ℕ) (r r₂ : Finding) (rs′ rs₂′ : List Record) (hs′ hs₂′ : List ℕ) (gs gs₂ : List Glyph) (qs : List Wanted) (is : List ℕ)
+    (a : Accepted s list gs) (a₂ : Accepted s₂ list₂ gs₂) (keys : map key gs ≡ map key gs₂) (c : FindCall s list q rs hs r rs′ hs′) (c₂ : FindCall s₂ list₂ q rs₂ hs₂ r₂ rs₂′ hs₂′) (w : WellFormed q qs) (l : ListOf qs gs is)
+    (p : length gs ≤ length rs) (p₂ : length gs₂ ≤ length rs₂) (k : length is ≤ length hs) (k₂ : length is ≤ length hs₂) where
+  one : FoundAll s rs hs gs is r rs′ hs′
+  one = answers s list q rs hs r rs′ hs′ c gs qs is a w l p k
+
+  two : FoundAll s₂ rs₂ hs₂ gs₂ is r₂ rs₂′ hs₂′
+  two = answers s₂ list₂ q rs₂ hs₂ r₂ rs₂′ hs₂′ c₂ gs₂ qs is a₂ w (list-by-keys qs gs gs₂ is keys l) p₂ k₂
+
+  count : length gs ≡ length gs₂
+  count = sym (length-map gs key) ∙ ap length keys ∙ length-map gs₂ key
+
+  pub same-by-keys : SameList r r₂ hs′ hs₂′ × (r ≡ F.Accepted (length gs) (length is))
+  same-by-keys = (record { numbers = one .numbers ∙ ap (λ (i : ℕ). F.Accepted i (length is)) count ∙ sym (two .numbers); list = λ n j e. lists j (ap hitsCount (sym (one .numbers) ∙ e)) }, one .numbers)
+    where
+      lists : (j : ℕ) → length is ≡ j → take j hs′ ≡ take j hs₂′
+      lists j e = ap (λ (i : ℕ). take i hs′) (sym e) ∙ one .list ∙ sym (two .list) ∙ ap (λ (i : ℕ). take i hs₂′) e
+
+-- ---- whichever command set a one-byte name
+
+outline-append : (cs ds : List Cmd) → outline (cs ++ ds) ≡ outline cs ++ outline ds
+unfolding outline
+outline-append [] ds = refl
+outline-append (c ∷ cs) ds = ap (λ (l : List Sign). signsOf c ++ l) (outline-append cs ds) ∙ append-assoc (signsOf c) (outline cs) (outline ds)
+  where
+    append-assoc : (x y z : List Sign) → x ++ (y ++ z) ≡ (x ++ y) ++ z
+    append-assoc [] y z = refl
+    append-assoc (a ∷ x) y z = ap (λ (l : List Sign). a ∷ l) (append-assoc x y z)
+
+map-both : (xs ys : List ℕ) → map byteSign xs ++ map byteSign ys ≡ map byteSign (xs ++ ys)
+map-both [] ys = refl
+map-both (x ∷ xs) ys = ap (λ (l : List Sign). byteSign x ∷ l) (map-both xs ys)
+
+set-outline : (cs : List Cmd) (bs : List ℕ) → SetBy cs bs → outline cs ≡ map byteSign bs
+unfolding outline
+set-outline cs bs none = refl
+set-outline cs bs (c-or-C b cs′ bs′ h) = ap (λ (l : List Sign). byteSign b ∷ l) (set-outline cs′ bs′ h)
+set-outline cs bs (t-or-u n ps cs′ bs′ h) = ap (λ (l : List Sign). map byteSign ps ++ l) (set-outline cs′ bs′ h) ∙ map-both ps bs′
+set-outline cs bs (two-digits n b cs′ bs′ h) = ap (λ (l : List Sign). byteSign b ∷ l) (set-outline cs′ bs′ h)
+
+motion-outline : (c : Cmd) (cs : List Cmd) → Motion c → outline (c ∷ cs) ≡ outline cs
+unfolding outline
+motion-outline c cs (to-place x n) = refl
+motion-outline c cs (by-way x n) = refl
+
+otherwise-outline : (cs cs₂ : List Cmd) → SetOtherwise cs cs₂ → outline cs ≡ outline cs₂
+unfolding outline
+otherwise-outline cs cs₂ ended = refl
+otherwise-outline cs cs₂ (same c ds ds₂ h) = ap (λ (l : List Sign). signsOf c ++ l) (otherwise-outline ds ds₂ h)
+otherwise-outline cs cs₂ (otherwise ps ps₂ bs ds ds₂ u v h) =
+    outline-append ps ds ∙ ap₂ (λ (x y : List Sign). x ++ y) (set-outline ps bs u ∙ sym (set-outline ps₂ bs v)) (otherwise-outline ds ds₂ h) ∙ sym (outline-append ps₂ ds₂)
+otherwise-outline cs cs₂ (moved c ds ds₂ m h) = motion-outline c ds m ∙ otherwise-outline ds ds₂ h
+otherwise-outline cs cs₂ (moved₂ c ds ds₂ m h) = otherwise-outline ds ds₂ h ∙ sym (motion-outline c ds₂ m)
+
+outline-keys : (s list : List ℕ) (gs : List Glyph) (a : Accepted s list gs) → map key gs ≡ keysFrom 0 0 (outline (a .allowed .commands))
+outline-keys s list gs a =
+    let x : ReadsTo s list (a .end) gs (a .items) = accepted-reads s list gs a in
+    ap (map key) (sym (x .glyphs-are))
+    ∙ sym (keys-rows (x .rows))
+    ∙ sym (ap keysIn (x .read-is))
+    ∙ keys-by-outline s list (allowed-accepted s list (a .end) gs (a .items) (a .widths) (a .list-sound) (a .allowed))
+    ∙ ap (λ (cs : List Cmd). keysFrom 0 0 (outline cs)) (commands-are s list (a .end) gs (a .items) (a .widths) (a .list-sound) (a .allowed))
+
+pub otherwise-keys : (s list s₂ list₂ : List ℕ) (gs gs₂ : List Glyph) (a : Accepted s list gs) (a₂ : Accepted s₂ list₂ gs₂) → SetOtherwise (a .allowed .commands) (a₂ .allowed .commands) → map key gs ≡ map key gs₂
+otherwise-keys s list s₂ list₂ gs gs₂ a a₂ h =
+    outline-keys s list gs a ∙ ap (keysFrom 0 0) (otherwise-outline (a .allowed .commands) (a₂ .allowed .commands) h) ∙ sym (outline-keys s₂ list₂ gs₂ a₂)
+
+pub five-forms : (b : ℕ) (r : List ℕ) → Rattle.rules.specs.Bytes.isWhite b ≡ false → FiveForms b r
+five-forms b r h = let x = byAnyCommand .one-byte b r h in record { by-c = x .by-c; by-C = x .by-C; by-t = x .by-t; by-u = x .by-u; by-digits = x .by-digits }
+
+-- ---- alike
+
+pub alike-keys : (gs gs₂ : List Glyph) → Alike gs gs₂ → map key gs ≡ map key gs₂
+alike-keys [] [] h = refl
+alike-keys [] (g₂ ∷ gs₂) h = absurd h
+alike-keys (g ∷ gs) [] h = absurd h
+alike-keys (g ∷ gs) (g₂ ∷ gs₂) h =
+    ap₂ (λ (k : Key) (l : List Key). k ∷ l) (λ i. record { name = h .0 i; gap = h .1 i; ordinal = h .2 i }) (alike-keys gs gs₂ (h .3))

@@ -1,0 +1,150 @@
+-- Every demand, proved: each is put together from what was proved of calls.
+use Prim.Native.Nat.{ℕ, _<_, _≤_}
+use native.Mathlib.Omega.{arith}
+use mathlib.Core.List.{List, map}
+use mathlib.Core.Logic.{_⊎_, inl, inr}
+use mathlib.Core.Path.{_≡_, refl, sym, ap, subst, _∙_}
+use lib.Dec.{ltb}
+use lib.ListN.{length, length-map}
+use borrow.Author.Tests.{ltb-true, ltb-false}
+use Rattle.rules.specs.declared.Record.{Record}
+use Rattle.rules.specs.declared.Entry.{Entry}
+use Rattle.rules.specs.declared.ReadAnswer.the-variants as R
+use Rattle.rules.specs.declared.Reading.{Reading}
+use Rattle.rules.specs.declared.Judging.{Judging}
+use Rattle.rules.specs.declared.Judging.the-variants as J
+use Rattle.rules.specs.State.{Env, Glyph, Item}
+use Rattle.rules.specs.Widths.{Widths, widthList}
+use Rattle.rules.specs.Record.{GlyphRow, ItemRow, Answer, refuse, answer}
+use Rattle.rules.specs.Answers.{streamMost, isOver, lengthOf, read, roomFor, readInto, readingOf, recordsOver, entriesOver, respellInto, respellingOf, bufferOver, findInto, findingOf, recordsFound, hitsOver, spellWith, judgingOf, judge}
+use Rattle.rules.specs.Calls.{ReadCall, JudgeCall}
+use Rattle.laws.proofs.Cases.{on}
+use Rattle.laws_answers.proofs.Judged.{judged}
+use Rattle.demands.specs.Demands as D
+use Rattle.demands.specs.Demands.{SoundList, Allowed, houseSpelling}
+use Rattle.demands.proofs.Allowed.{Stream, read-allowed}
+use Rattle.demands.proofs.ReadCalls as read-calls
+use Rattle.demands.proofs.SpellCalls as spell-calls
+use Rattle.demands.proofs.FindCalls as find-calls
+
+-- ---- 1
+
+pub answer-all : D.Answer
+answer-all = record {
+  reader = λ s list rs es. (readingOf (readInto (length rs) (length es) s list), recordsOver rs (readInto (length rs) (length es) s list), entriesOver es (readInto (length rs) (length es) s list), record { answer = refl; records = refl; entries = refl });
+  reader-one = λ s list rs es r r₂ rs′ rs₂′ es′ es₂′ c c₂. (c .answer ∙ sym (c₂ .answer), c .records ∙ sym (c₂ .records), c .entries ∙ sym (c₂ .entries));
+  reader-lengths = λ s list rs es r rs′ es′ c. read-calls.lengths s list rs es r rs′ es′ c;
+  rewriter = λ s list o. (respellingOf (respellInto (length o) s list), bufferOver o (respellInto (length o) s list), record { answer = refl; buffer = refl });
+  rewriter-one = λ s list o r r₂ o′ o₂′ c c₂. (c .answer ∙ sym (c₂ .answer), c .buffer ∙ sym (c₂ .buffer));
+  rewriter-length = λ s list o r o′ c. spell-calls.buffer-length s list o r o′ c;
+  finder = λ s list q rs hs. (findingOf (findInto (length rs) (length hs) s list q), recordsFound rs (findInto (length rs) (length hs) s list q), hitsOver hs (findInto (length rs) (length hs) s list q), record { answer = refl; records = refl; hits = refl });
+  finder-one = λ s list q rs hs r r₂ rs′ rs₂′ hs′ hs₂′ c c₂. (c .answer ∙ sym (c₂ .answer), c .records ∙ sym (c₂ .records), c .hits ∙ sym (c₂ .hits));
+  finder-lengths = λ s list q rs hs r rs′ hs′ c. find-calls.lengths s list q rs hs r rs′ hs′ c;
+}
+
+pub refuse-from-the-table : D.Refuse
+refuse-from-the-table = record {
+  reader = λ s list rs es r rs′ es′ number at c h. read-calls.number-in s list rs es r rs′ es′ c number at h;
+  rewriter = λ s list o o′ number at c. spell-calls.number-in s list o o′ number at c;
+  finder = λ s list q rs hs rs′ hs′ number at c. find-calls.number-in s list q rs hs rs′ hs′ number at c;
+}
+
+pub leave-alone : D.LeaveAlone
+leave-alone = record {
+  reader = λ s list rs es r rs′ es′ number at c h. read-calls.leaves s list rs es r rs′ es′ c number at h;
+  rewriter = λ s list o o′ number at c. spell-calls.leaves s list o o′ number at c;
+  finder = λ s list q rs hs rs′ hs′ number at c. find-calls.leaves s list q rs hs rs′ hs′ number at c;
+}
+
+-- ---- 2
+
+pub accept-exactly : D.AcceptExactly
+accept-exactly = record {
+  where-allowed = λ s list rs es r rs′ es′ w end gs xs c l p q a. read-calls.accepts s list rs es r rs′ es′ c w end gs xs l a p q;
+  only-where-allowed = λ s list rs es r rs′ es′ c h. read-calls.only-allowed s list rs es r rs′ es′ c h;
+}
+
+pub record-each : D.RecordEach
+record-each s list rs es r rs′ es′ w end gs xs c l p q a = read-calls.records-each s list rs es r rs′ es′ c w end gs xs l a p q
+
+pub give-house-spelling : D.GiveHouseSpelling
+give-house-spelling = record {
+  where-allowed = λ s list o r o′ w end gs xs c l a p q. spell-calls.gives s list o r o′ c w end gs xs l a p q;
+  only-where-allowed = λ s list o n o′ c. spell-calls.only-allowed-spelt s list o n o′ c;
+}
+
+pub spelling-reads-the-same : D.SpellingReadsTheSame
+spelling-reads-the-same s list o n o′ c = spell-calls.reads-the-same s list o n o′ c
+
+pub rewriting-changes-nothing : D.RewritingChangesNothing
+rewriting-changes-nothing s list o n o′ c o₂ r₂ o₂′ d h = spell-calls.changes-nothing s list o n o′ c o₂ r₂ o₂′ d h
+
+-- ---- 3
+
+pub find-exactly : D.FindExactly
+find-exactly = record {
+  answered = λ s list q rs hs r rs′ hs′ gs qs is c a w l p k. find-calls.answers s list q rs hs r rs′ hs′ c gs qs is a w l p k;
+  some = find-calls.some-list;
+  one = find-calls.one-list;
+  only = λ s list q rs hs n k rs′ hs′ c. find-calls.only-found s list q rs hs n k rs′ hs′ c;
+}
+
+pub by-any-command : D.ByAnyCommand
+by-any-command = record {
+  forms = find-calls.five-forms;
+  no-difference = λ s list s₂ list₂ q rs rs₂ hs hs₂ r r₂ rs′ rs₂′ hs′ hs₂′ gs gs₂ qs is a a₂ o c c₂ w l p p₂ k k₂.
+    find-calls.same-by-keys s list s₂ list₂ q rs rs₂ hs hs₂ r r₂ rs′ rs₂′ hs′ hs₂′ gs gs₂ qs is a a₂ (find-calls.otherwise-keys s list s₂ list₂ gs gs₂ a a₂ o) c c₂ w l p p₂ k k₂;
+}
+
+pub alike-answer-alike : D.AlikeAnswerAlike
+alike-answer-alike s list s₂ list₂ q rs rs₂ hs hs₂ r r₂ rs′ rs₂′ hs′ hs₂′ gs gs₂ qs is a a₂ h c c₂ w l p p₂ k k₂ =
+    find-calls.same-by-keys s list s₂ list₂ q rs rs₂ hs hs₂ r r₂ rs′ rs₂′ hs′ hs₂′ gs gs₂ qs is a a₂ (find-calls.alike-keys gs gs₂ h) c c₂ w l p p₂ k k₂
+
+-- ---- room, and judging
+
+pub no-room : D.NoRoom
+no-room = record {
+  reader = λ s list rs es r rs′ es′ w end gs xs c l a h. read-calls.no-room s list rs es r rs′ es′ c w end gs xs l a h;
+  reader-only = λ s list rs es r rs′ es′ at c h. read-calls.only-no-room s list rs es r rs′ es′ c at h;
+  rewriter = λ s list o r o′ w end gs xs c l a h. spell-calls.no-room s list o r o′ c w end gs xs l a h;
+  rewriter-only = spell-calls.only-no-room;
+  finder = λ s list q rs hs r rs′ hs′ gs qs is c a w l h. find-calls.no-room s list q rs hs r rs′ hs′ c gs qs is a w l h;
+  finder-only = find-calls.only-no-room;
+}
+
+abbrev four : Judging → ℕ → ℕ → ℕ → ℕ → Type 0
+four (J.Accepted n m p t) a b c d = (n ≡ a) × (m ≡ b) × (p ≡ c) × (t ≡ d)
+four (J.Refused k at) a b c d = ⊥
+
+module _ (s list : List ℕ) (n m pages len : ℕ) (c : JudgeCall s list (J.Accepted n m pages len)) where
+  abbrev Spells : List ℕ → Type 0
+  Spells t = ((len ≡ length t) × (len ≤ 16_777_216)) ⊎ ((len ≡ 16_777_217) × (16_777_216 < length t))
+
+  told-length : (t : List ℕ) → len ≡ lengthOf t → Spells t
+  told-length t e =
+      on (isOver streamMost t) (λ k. inr (rw k at e, ltb-true streamMost (length t) k))
+      (λ k. let z : len ≡ length t = rw k at e in inl (z, subst (λ (i : ℕ). i ≤ 16_777_216) (sym z) (ltb-false streamMost (length t) k)))
+
+  judge-accepted : (w : Widths) × (end : Env) × (gs : List Glyph) × (xs : List Item) × SoundList list w × (a : Allowed s w end gs xs) × (n ≡ length gs) × (m ≡ length xs) × (pages ≡ end .ordinal) × Spells (houseSpelling w (a .commands))
+  unfolding judge
+  judge-accepted = go (read s list) refl (c .answer)
+    where
+      go : (x : Answer) → read s list ≡ x → J.Accepted n m pages len ≡ judgingOf (spellWith s (widthList list)) x
+          → (w : Widths) × (end : Env) × (gs : List Glyph) × (xs : List Item) × SoundList list w × (a : Allowed s w end gs xs) × (n ≡ length gs) × (m ≡ length xs) × (pages ≡ end .ordinal) × Spells (houseSpelling w (a .commands))
+      go (refuse k at) e h = absurd (subst (λ (x : Judging). four x n m pages len) h (refl, refl, refl, refl))
+      go (answer rs xs d) e h =
+          let y : Stream s list d (map (λ (r : GlyphRow). r .glyph) rs) (map (λ (x : ItemRow). x .item) xs) = read-allowed s list rs xs d e in
+          let z : four (J.Accepted n m pages len) (length rs) (length xs) (d .ordinal) (lengthOf (spellWith s (widthList list))) =
+          subst (λ (x : Judging). four x (length rs) (length xs) (d .ordinal) (lengthOf (spellWith s (widthList list)))) (sym h) (refl, refl, refl, refl) in
+          let text : spellWith s (widthList list) ≡ houseSpelling (y .widths) (y .allowed .commands) = rw (y .list-sound .says, y .commands-of) in
+          (y .widths, d, map (λ (r : GlyphRow). r .glyph) rs, map (λ (x : ItemRow). x .item) xs, y .list-sound, y .allowed,
+          z .0 ∙ sym (length-map rs (λ (r : GlyphRow). r .glyph)), z .1 ∙ sym (length-map xs (λ (x : ItemRow). x .item)), z .2, told-length (houseSpelling (y .widths) (y .allowed .commands)) (z .3 ∙ ap lengthOf text))
+
+judge-refused : (s list : List ℕ) (number at : ℕ) → JudgeCall s list (J.Refused number at)
+    → (rs : List Record) (es : List Entry) (r : Reading) (rs′ : List Record) (es′ : List Entry) → ReadCall s list rs es r rs′ es′ → r .answer ≡ R.Refused number at
+unfolding readInto
+judge-refused s list number at j rs es r rs′ es′ c =
+    ap (λ (x : Reading). x .answer) (c .answer ∙ ap (λ (x : Answer). readingOf (roomFor (length rs) (length es) x)) (judged .refused s list number at (sym (j .answer))))
+
+pub judge-tells : D.Judge
+judge-tells = record { accepted = judge-accepted; refused = judge-refused }

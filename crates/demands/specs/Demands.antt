@@ -1,0 +1,321 @@
+-- The department's demands, each sentence over the statement that says it. They are about calls: `ReadCall`, `RespellCall` and `FindCall`
+-- (`rules`, Calls.antt) are the contracts of the reader, the rewriter and the finder. All is proved (proofs/).
+--
+-- s is a stream, list a width list, q a query; rs, es and hs are the lent rows of records, entries and record numbers, o is the lent
+-- buffer; r is the answer, and what the rows and the buffer hold afterwards has a prime.
+use Prim.Native.Nat.{ℕ, suc, _+_, _-_, _<_, _≤_}
+use mathlib.Core.Bool.{true, false}
+use mathlib.Core.List.{List, [], _∷_, _++_, map}
+use mathlib.Core.Logic.{_⊎_}
+use mathlib.Core.Path.{_≡_}
+use lib.IntN.{ℤ, pos}
+use lib.ListN.{length, take, drop}
+use Rattle.rules.specs.declared.Record.{Record}
+use Rattle.rules.specs.declared.Entry.{Entry}
+use Rattle.rules.specs.declared.ReadAnswer.{ReadAnswer}
+use Rattle.rules.specs.declared.ReadAnswer.the-variants as R
+use Rattle.rules.specs.declared.Reading.{Reading}
+use Rattle.rules.specs.declared.Respelling.{Respelling}
+use Rattle.rules.specs.declared.Respelling.the-variants as S
+use Rattle.rules.specs.declared.Finding.{Finding}
+use Rattle.rules.specs.declared.Finding.the-variants as F
+use Rattle.rules.specs.declared.Judging.{Judging}
+use Rattle.rules.specs.declared.Judging.the-variants as J
+use Rattle.rules.specs.Bytes.{is, isWhite, oneLine, origin}
+use Rattle.rules.specs.Act.{Axis, Act, glyph, to, by, raw, draw, Cmd, just, word, pair}
+use Rattle.rules.specs.Scan.{got, command}
+use Rattle.rules.specs.Widths.{Widths, sound, widthList}
+use Rattle.rules.specs.State.{Env, Glyph, Item, went, start, steps, stopped}
+use Rattle.rules.specs.Record.{shown, EntryLetters, lettersOf, colourOf}
+use Rattle.rules.specs.House.{spelling, spellAll}
+use Rattle.rules.specs.Find.{Wanted, Key, key}
+use Rattle.rules.specs.Calls.{ReadCall, RespellCall, FindCall, JudgeCall}
+use Rattle.laws_find.specs.Occurs.{OccursAt, Elem, Rising}
+use Rattle.laws_find.specs.Written.{written, GoodQuery}
+
+-- ---- the words
+
+-- "a sound width list": at most 65,536 bytes, every line right; w is what it says
+pub record SoundList (list : List ℕ) (w : Widths) : Type 0 where
+  pub short : length list ≤ 65_536
+  pub says : widthList list ≡ sound w
+
+-- the bytes are these commands, each written as 01 has it and within its limits, with whitespace and comments before, between and
+-- behind them
+pub data ConsistsOf : List ℕ → List Cmd → Type 0 where
+  ended : ConsistsOf [] []
+  white : (b : ℕ) (r : List ℕ) (cs : List Cmd) → isWhite b ≡ true → ConsistsOf r cs → ConsistsOf (b ∷ r) cs
+  comment : (b : ℕ) (r : List ℕ) (cs : List Cmd) → is "#" b ≡ true → ConsistsOf (drop (oneLine r) r) cs → ConsistsOf (b ∷ r) cs
+  one : (b : ℕ) (r : List ℕ) (c : Cmd) (name len : ℕ) (cs : List Cmd) → isWhite b ≡ false → is "#" b ≡ false
+      → command b r ≡ got c name len → ConsistsOf (drop (len - 1) r) cs → ConsistsOf (b ∷ r) (c ∷ cs)
+
+-- "groff_out(5), as 01 fixes it, allows it": at most 16,777,216 bytes of commands, each of which may be performed where it stands, the
+-- last of them `x s`; they come to these glyphs, drawings and controls, and end in this environment
+pub record Allowed (s : List ℕ) (w : Widths) (end : Env) (gs : List Glyph) (xs : List Item) : Type 0 where
+  pub short : length s ≤ 16_777_216
+  pub commands : List Cmd
+  pub consists : ConsistsOf s commands
+  pub performed : steps w start commands ≡ went end gs xs
+  pub ended : stopped end ≡ true
+
+-- "a stream accepted with its width list", and its glyphs
+pub record Accepted (s list : List ℕ) (gs : List Glyph) : Type 0 where
+  pub widths : Widths
+  pub list-sound : SoundList list widths
+  pub end : Env
+  pub items : List Item
+  pub allowed : Allowed s widths end gs items
+
+-- what a record says, its name by the bytes that stand in the stream at its place; and what a glyph has of it
+pub record SeenGlyph : Type 0 where
+  pub ordinal : ℕ
+  pub page : ℤ
+  pub h : ℤ
+  pub v : ℤ
+  pub font : ℕ
+  pub size : ℕ
+  pub name : List ℕ
+  pub index : ℕ
+  pub gap : ℕ
+
+abbrev pub recorded : List ℕ → Record → SeenGlyph
+recorded s r = record { ordinal = r .ordinal; page = r .page; h = r .h; v = r .v; font = r .font; size = r .size; name = take (r .len) (drop (r .place) s); index = r .index; gap = r .gap }
+
+abbrev pub set : Glyph → SeenGlyph
+set g = record { ordinal = g .ordinal; page = shown (g .number); h = shown (g .spot .h); v = shown (g .spot .v); font = g .font; size = g .size; name = g .name; index = g .index; gap = g .gap }
+
+-- what an entry says, its place in the stream aside; and what a drawing or control has of it
+pub record SeenEntry : Type 0 where
+  pub command : ℕ
+  pub letter : ℕ
+  pub scheme : ℕ
+  pub ordinal : ℕ
+  pub h : ℤ
+  pub v : ℤ
+
+abbrev pub entered : Entry → SeenEntry
+entered e = record { command = e .command; letter = e .letter; scheme = e .scheme; ordinal = e .ordinal; h = e .h; v = e .v }
+
+abbrev pub drawn : Item → SeenEntry
+drawn x = record {
+  command = lettersOf (x .act) .command;
+  letter = lettersOf (x .act) .letter;
+  scheme = lettersOf (x .act) .scheme;
+  ordinal = x .ordinal;
+  h = shown (x .spot .h);
+  v = shown (x .spot .v);
+}
+
+abbrev pub IsAccepted : ReadAnswer → Type 0
+IsAccepted (R.Accepted n m pages h v) = Unit {0}
+IsAccepted (R.Refused number at) = ⊥
+
+-- ==== 1
+
+-- "Any bytes, lists and lent rows get an answer." One answer each, and one content of each row and buffer; their lengths stay.
+pub record Answer : Type 0 where
+  pub reader : (s list : List ℕ) (rs : List Record) (es : List Entry) → (r : Reading) × (rs′ : List Record) × (es′ : List Entry) × ReadCall s list rs es r rs′ es′
+  pub reader-one : (s list : List ℕ) (rs : List Record) (es : List Entry) (r r₂ : Reading) (rs′ rs₂′ : List Record) (es′ es₂′ : List Entry)
+      → ReadCall s list rs es r rs′ es′ → ReadCall s list rs es r₂ rs₂′ es₂′ → (r ≡ r₂) × (rs′ ≡ rs₂′) × (es′ ≡ es₂′)
+  pub reader-lengths : (s list : List ℕ) (rs : List Record) (es : List Entry) (r : Reading) (rs′ : List Record) (es′ : List Entry)
+      → ReadCall s list rs es r rs′ es′ → (length rs′ ≡ length rs) × (length es′ ≡ length es)
+  pub rewriter : (s list o : List ℕ) → (r : Respelling) × (o′ : List ℕ) × RespellCall s list o r o′
+  pub rewriter-one : (s list o : List ℕ) (r r₂ : Respelling) (o′ o₂′ : List ℕ) → RespellCall s list o r o′ → RespellCall s list o r₂ o₂′ → (r ≡ r₂) × (o′ ≡ o₂′)
+  pub rewriter-length : (s list o : List ℕ) (r : Respelling) (o′ : List ℕ) → RespellCall s list o r o′ → length o′ ≡ length o
+  pub finder : (s list q : List ℕ) (rs : List Record) (hs : List ℕ) → (r : Finding) × (rs′ : List Record) × (hs′ : List ℕ) × FindCall s list q rs hs r rs′ hs′
+  pub finder-one : (s list q : List ℕ) (rs : List Record) (hs : List ℕ) (r r₂ : Finding) (rs′ rs₂′ : List Record) (hs′ hs₂′ : List ℕ)
+      → FindCall s list q rs hs r rs′ hs′ → FindCall s list q rs hs r₂ rs₂′ hs₂′ → (r ≡ r₂) × (rs′ ≡ rs₂′) × (hs′ ≡ hs₂′)
+  pub finder-lengths : (s list q : List ℕ) (rs : List Record) (hs : List ℕ) (r : Finding) (rs′ : List Record) (hs′ : List ℕ)
+      → FindCall s list q rs hs r rs′ hs′ → (length rs′ ≡ length rs) × (length hs′ ≡ length hs)
+
+-- "The reader, rewriter and finder each accept, or refuse with a number and an offset from the table in 01." (An answer is the one or the
+-- other by its type.)
+pub record Refuse : Type 0 where
+  pub reader : (s list : List ℕ) (rs : List Record) (es : List Entry) (r : Reading) (rs′ : List Record) (es′ : List Entry) (number at : ℕ)
+      → ReadCall s list rs es r rs′ es′ → r .answer ≡ R.Refused number at → (1 ≤ number) × (number ≤ 13)
+  pub rewriter : (s list o : List ℕ) (o′ : List ℕ) (number at : ℕ) → RespellCall s list o (S.Refused number at) o′ → (1 ≤ number) × (number ≤ 13)
+  pub finder : (s list q : List ℕ) (rs : List Record) (hs : List ℕ) (rs′ : List Record) (hs′ : List ℕ) (number at : ℕ)
+      → FindCall s list q rs hs (F.Refused number at) rs′ hs′ → (1 ≤ number) × (number ≤ 13)
+
+-- "A refusal leaves every row and buffer holding what it held before."
+pub record LeaveAlone : Type 0 where
+  pub reader : (s list : List ℕ) (rs : List Record) (es : List Entry) (r : Reading) (rs′ : List Record) (es′ : List Entry) (number at : ℕ)
+      → ReadCall s list rs es r rs′ es′ → r .answer ≡ R.Refused number at → (rs′ ≡ rs) × (es′ ≡ es)
+  pub rewriter : (s list o : List ℕ) (o′ : List ℕ) (number at : ℕ) → RespellCall s list o (S.Refused number at) o′ → o′ ≡ o
+  pub finder : (s list q : List ℕ) (rs : List Record) (hs : List ℕ) (rs′ : List Record) (hs′ : List ℕ) (number at : ℕ)
+      → FindCall s list q rs hs (F.Refused number at) rs′ hs′ → (rs′ ≡ rs) × (hs′ ≡ hs)
+
+-- ==== 2
+
+-- "With a sound width list and rows large enough, a stream is accepted exactly when groff_out(5), as 01 fixes it, allows it." Large enough
+-- are "rows with a place for each record and .. entry".
+pub record AcceptExactly : Type 0 where
+  pub where-allowed : (s list : List ℕ) (rs : List Record) (es : List Entry) (r : Reading) (rs′ : List Record) (es′ : List Entry) (w : Widths) (end : Env) (gs : List Glyph) (xs : List Item)
+      → ReadCall s list rs es r rs′ es′ → SoundList list w → length gs ≤ length rs → length xs ≤ length es
+      → Allowed s w end gs xs → IsAccepted (r .answer)
+  pub only-where-allowed : (s list : List ℕ) (rs : List Record) (es : List Entry) (r : Reading) (rs′ : List Record) (es′ : List Entry)
+      → ReadCall s list rs es r rs′ es′ → IsAccepted (r .answer)
+      → (w : Widths) × (end : Env) × (gs : List Glyph) × (xs : List Item) × SoundList list w × Allowed s w end gs xs × (length gs ≤ length rs) × (length xs ≤ length es)
+
+-- "Each glyph is then recorded once, in order, with the name, page, place, font and size 01 gives it." Likewise each drawing and control;
+-- the answer tells how many of each, the pages, the end position and both colours; and what lies behind them is kept.
+pub record RecordedAll (s : List ℕ) (end : Env) (gs : List Glyph) (xs : List Item) (rs : List Record) (es : List Entry) (r : Reading) (rs′ : List Record) (es′ : List Entry) : Type 0 where
+  pub glyphs : map (recorded s) (take (length gs) rs′) ≡ map set gs
+  pub drawings-and-controls : map entered (take (length xs) es′) ≡ map drawn xs
+  pub answer : r .answer ≡ R.Accepted (length gs) (length xs) (end .ordinal) (shown (end .spot .h)) (shown (end .spot .v))
+  pub glyph-colour : r .glyph ≡ colourOf (end .glyphPaint)
+  pub fill-colour : r .fill ≡ colourOf (end .fillPaint)
+  pub records-behind : drop (length gs) rs′ ≡ drop (length gs) rs
+  pub entries-behind : drop (length xs) es′ ≡ drop (length xs) es
+
+abbrev pub RecordEach : Type 0
+RecordEach = (s list : List ℕ) (rs : List Record) (es : List Entry) (r : Reading) (rs′ : List Record) (es′ : List Entry) (w : Widths) (end : Env) (gs : List Glyph) (xs : List Item)
+    → ReadCall s list rs es r rs′ es′ → SoundList list w → length gs ≤ length rs → length xs ≤ length es → Allowed s w end gs xs → RecordedAll s end gs xs rs es r rs′ es′
+
+-- "The rewriter gives the one house spelling.": of the commands that the stream consists of, so that streams of the same commands have one;
+-- unless it is longer than 16,777,216 bytes, or than the buffer. What lies behind it is kept.
+abbrev pub houseSpelling : Widths → List Cmd → List ℕ
+houseSpelling w cs = spellAll (spelling w cs)
+
+pub record GiveHouseSpelling : Type 0 where
+  pub where-allowed : (s list o : List ℕ) (r : Respelling) (o′ : List ℕ) (w : Widths) (end : Env) (gs : List Glyph) (xs : List Item)
+      → RespellCall s list o r o′ → SoundList list w → (a : Allowed s w end gs xs)
+      → length (houseSpelling w (a .commands)) ≤ 16_777_216 → length (houseSpelling w (a .commands)) ≤ length o
+      → (r ≡ S.Accepted (length (houseSpelling w (a .commands)))) × (o′ ≡ houseSpelling w (a .commands) ++ drop (length (houseSpelling w (a .commands))) o)
+  pub only-where-allowed : (s list o : List ℕ) (n : ℕ) (o′ : List ℕ) → RespellCall s list o (S.Accepted n) o′
+      → (w : Widths) × (end : Env) × (gs : List Glyph) × (xs : List Item) × SoundList list w × (a : Allowed s w end gs xs) × (take n o′ ≡ houseSpelling w (a .commands)) × (length (take n o′) ≡ n)
+
+-- "Whenever it gives one, reading that spelling yields the same glyphs, drawings, controls, pages and end position": the very same, names
+-- and arguments included, ending in the same environment; and so say the rows and the answer, where they are large enough
+pub record ReadTheSame (s list t : List ℕ) : Type 0 where
+  pub allowed : (w : Widths) (end : Env) (gs : List Glyph) (xs : List Item) → SoundList list w → Allowed s w end gs xs → Allowed t w end gs xs
+  pub rows : (rs : List Record) (es : List Entry) (r : Reading) (rs′ : List Record) (es′ : List Entry) (n m pages : ℕ) (h v : ℤ)
+      → ReadCall s list rs es r rs′ es′ → r .answer ≡ R.Accepted n m pages h v
+      → (rs₂ : List Record) (es₂ : List Entry) (r₂ : Reading) (rs₂′ : List Record) (es₂′ : List Entry) → ReadCall t list rs₂ es₂ r₂ rs₂′ es₂′ → n ≤ length rs₂ → m ≤ length es₂
+      → (r₂ ≡ r) × (map (recorded t) (take n rs₂′) ≡ map (recorded s) (take n rs′)) × (map entered (take m es₂′) ≡ map entered (take m es′))
+
+abbrev pub SpellingReadsTheSame : Type 0
+SpellingReadsTheSame = (s list o : List ℕ) (n : ℕ) (o′ : List ℕ) → RespellCall s list o (S.Accepted n) o′ → ReadTheSame s list (take n o′)
+
+-- "and rewriting it changes nothing."
+abbrev pub RewritingChangesNothing : Type 0
+RewritingChangesNothing = (s list o : List ℕ) (n : ℕ) (o′ : List ℕ) → RespellCall s list o (S.Accepted n) o′
+    → (o₂ : List ℕ) (r₂ : Respelling) (o₂′ : List ℕ) → RespellCall (take n o′) list o₂ r₂ o₂′ → n ≤ length o₂ → (r₂ ≡ S.Accepted n) × (take n o₂′ ≡ take n o′)
+
+-- ==== 3
+
+-- "any well-formed query": lines `glyph=NAME` and `gap=any` for these glyphs
+pub record WellFormed (q : List ℕ) (qs : List Wanted) : Type 0 where
+  pub text : q ≡ written qs
+  pub good : GoodQuery qs
+
+-- "the number of every glyph record of the stream at which the query occurs by 01's rule, each once, earliest first, and no other"
+pub record ListOf (qs : List Wanted) (gs : List Glyph) (is : List ℕ) : Type 0 where
+  pub every : (i : ℕ) → OccursAt qs (map key gs) i → Elem i is
+  pub no-other : (i : ℕ) → Elem i is → OccursAt qs (map key gs) i
+  pub each-once-earliest-first : Rising is
+
+-- "For any stream accepted with its width list, any well-formed query and rows large enough, whatever they held before, the finder's list
+-- is exactly this: .. The number of records it answers is the stream's, and the number of hits is that list's length." The records are
+-- in the row, and what lies behind records and list is kept.
+pub record FoundAll (s : List ℕ) (rs : List Record) (hs : List ℕ) (gs : List Glyph) (is : List ℕ) (r : Finding) (rs′ : List Record) (hs′ : List ℕ) : Type 0 where
+  pub list : take (length is) hs′ ≡ is
+  pub numbers : r ≡ F.Accepted (length gs) (length is)
+  pub records : map (recorded s) (take (length gs) rs′) ≡ map set gs
+  pub list-behind : drop (length is) hs′ ≡ drop (length is) hs
+  pub records-behind : drop (length gs) rs′ ≡ drop (length gs) rs
+
+pub record FindExactly : Type 0 where
+  pub answered : (s list q : List ℕ) (rs : List Record) (hs : List ℕ) (r : Finding) (rs′ : List Record) (hs′ : List ℕ) (gs : List Glyph) (qs : List Wanted) (is : List ℕ)
+      → FindCall s list q rs hs r rs′ hs′ → Accepted s list gs → WellFormed q qs → ListOf qs gs is → length gs ≤ length rs → length is ≤ length hs
+      → FoundAll s rs hs gs is r rs′ hs′
+  -- there is such a list for every query and stream, and one alone
+  pub some : (qs : List Wanted) (gs : List Glyph) → GoodQuery qs → (is : List ℕ) × ListOf qs gs is
+  pub one : (qs : List Wanted) (gs : List Glyph) (is is₂ : List ℕ) → ListOf qs gs is → ListOf qs gs is₂ → is ≡ is₂
+  -- and nothing else is ever answered
+  pub only : (s list q : List ℕ) (rs : List Record) (hs : List ℕ) (n k : ℕ) (rs′ : List Record) (hs′ : List ℕ) → FindCall s list q rs hs (F.Accepted n k) rs′ hs′
+      → (gs : List Glyph) × (qs : List Wanted) × (is : List ℕ) × Accepted s list gs × WellFormed q qs × ListOf qs gs is × FoundAll s rs hs gs is (F.Accepted n k) rs′ hs′
+
+-- "In accepted streams it makes no difference to list or numbers by which of t, u, c, C or the old two-digit form a one-byte name was set."
+-- The bytes bs are set as names of one byte each, in order, by `c` or `C`, `t` or `u` words, or two digits.
+pub data SetBy : List Cmd → List ℕ → Type 0 where
+  none : SetBy [] []
+  c-or-C : (b : ℕ) (cs : List Cmd) (bs : List ℕ) → SetBy cs bs → SetBy (just (glyph (b ∷ [])) ∷ cs) (b ∷ bs)
+  t-or-u : (n : ℕ) (ps : List ℕ) (cs : List Cmd) (bs : List ℕ) → SetBy cs bs → SetBy (word n ps ∷ cs) (ps ++ bs)
+  two-digits : (n b : ℕ) (cs : List Cmd) (bs : List ℕ) → SetBy cs bs → SetBy (pair n b ∷ cs) (b ∷ bs)
+
+pub data Motion : Cmd → Type 0 where
+  to-place : (x : Axis) (n : ℕ) → Motion (just (to x n))
+  by-way : (x : Axis) (n : ℕ) → Motion (just (by x n))
+
+-- two streams' commands are the same, but for that, and for motions
+pub data SetOtherwise : List Cmd → List Cmd → Type 0 where
+  ended : SetOtherwise [] []
+  same : (c : Cmd) (cs cs₂ : List Cmd) → SetOtherwise cs cs₂ → SetOtherwise (c ∷ cs) (c ∷ cs₂)
+  otherwise : (ps ps₂ : List Cmd) (bs : List ℕ) (cs cs₂ : List Cmd) → SetBy ps bs → SetBy ps₂ bs → SetOtherwise cs cs₂ → SetOtherwise (ps ++ cs) (ps₂ ++ cs₂)
+  moved : (c : Cmd) (cs cs₂ : List Cmd) → Motion c → SetOtherwise cs cs₂ → SetOtherwise (c ∷ cs) cs₂
+  moved₂ : (c : Cmd) (cs cs₂ : List Cmd) → Motion c → SetOtherwise cs cs₂ → SetOtherwise cs (c ∷ cs₂)
+
+-- a byte that is no whitespace, set by each of the five in front of a newline: `cb`, `Cb`, `tb`, `u0 b`, `00b`
+pub record FiveForms (b : ℕ) (r : List ℕ) : Type 0 where
+  pub by-c : command 99 (b ∷ 10 ∷ r) ≡ got (just (glyph (b ∷ []))) 1 2
+  pub by-C : command 67 (b ∷ 10 ∷ r) ≡ got (just (glyph (b ∷ []))) 1 2
+  pub by-t : command 116 (b ∷ 10 ∷ r) ≡ got (word origin (b ∷ [])) 1 2
+  pub by-u : command 117 (48 ∷ 32 ∷ b ∷ 10 ∷ r) ≡ got (word origin (b ∷ [])) 3 4
+  pub by-digits : command 48 (48 ∷ b ∷ 10 ∷ r) ≡ got (pair origin b) 2 3
+
+-- the same answer, and the same list where one is given
+pub record SameList (r r₂ : Finding) (hs′ hs₂′ : List ℕ) : Type 0 where
+  pub numbers : r ≡ r₂
+  pub list : (n k : ℕ) → r ≡ F.Accepted n k → take k hs′ ≡ take k hs₂′
+
+pub record ByAnyCommand : Type 0 where
+  pub forms : (b : ℕ) (r : List ℕ) → isWhite b ≡ false → FiveForms b r
+  pub no-difference : (s list s₂ list₂ q : List ℕ) (rs rs₂ : List Record) (hs hs₂ : List ℕ) (r r₂ : Finding) (rs′ rs₂′ : List Record) (hs′ hs₂′ : List ℕ) (gs gs₂ : List Glyph) (qs : List Wanted) (is : List ℕ)
+      → (a : Accepted s list gs) → (a₂ : Accepted s₂ list₂ gs₂) → SetOtherwise (a .allowed .commands) (a₂ .allowed .commands)
+      → FindCall s list q rs hs r rs′ hs′ → FindCall s₂ list₂ q rs₂ hs₂ r₂ rs₂′ hs₂′ → WellFormed q qs → ListOf qs gs is
+      → length gs ≤ length rs → length gs₂ ≤ length rs₂ → length is ≤ length hs → length is ≤ length hs₂
+      → SameList r r₂ hs′ hs₂′ × (r ≡ F.Accepted (length gs) (length is))
+
+-- "Take any two accepted streams, each with its own width list, that have equally many records, record by record alike in name bytes, gap
+-- mark and page ordinal. On both, with rows large enough, every well-formed query gives the same list and the same numbers."
+abbrev pub Alike : List Glyph → List Glyph → Type 0
+Alike [] [] = Unit {0}
+Alike [] (g₂ ∷ gs₂) = ⊥
+Alike (g ∷ gs) [] = ⊥
+Alike (g ∷ gs) (g₂ ∷ gs₂) = (g .name ≡ g₂ .name) × (g .gap ≡ g₂ .gap) × (g .ordinal ≡ g₂ .ordinal) × Alike gs gs₂
+
+abbrev pub AlikeAnswerAlike : Type 0
+AlikeAnswerAlike = (s list s₂ list₂ q : List ℕ) (rs rs₂ : List Record) (hs hs₂ : List ℕ) (r r₂ : Finding) (rs′ rs₂′ : List Record) (hs′ hs₂′ : List ℕ) (gs gs₂ : List Glyph) (qs : List Wanted) (is : List ℕ)
+    → Accepted s list gs → Accepted s₂ list₂ gs₂ → Alike gs gs₂
+    → FindCall s list q rs hs r rs′ hs′ → FindCall s₂ list₂ q rs₂ hs₂ r₂ rs₂′ hs₂′ → WellFormed q qs → ListOf qs gs is
+    → length gs ≤ length rs → length gs₂ ≤ length rs₂ → length is ≤ length hs → length is ≤ length hs₂
+    → SameList r r₂ hs′ hs₂′ × (r ≡ F.Accepted (length gs) (length is))
+
+-- ==== what the demands rest on: room, and judging
+
+-- refusal 13: "records, entries, hits or spelling need more room than lent, or the spelling is over 16,777,216 bytes; offset 0". "13 comes
+-- last, when all else passed", and "is given exactly for its reason".
+pub record NoRoom : Type 0 where
+  pub reader : (s list : List ℕ) (rs : List Record) (es : List Entry) (r : Reading) (rs′ : List Record) (es′ : List Entry) (w : Widths) (end : Env) (gs : List Glyph) (xs : List Item)
+      → ReadCall s list rs es r rs′ es′ → SoundList list w → Allowed s w end gs xs → (length rs < length gs) ⊎ (length es < length xs) → r .answer ≡ R.Refused 13 0
+  pub reader-only : (s list : List ℕ) (rs : List Record) (es : List Entry) (r : Reading) (rs′ : List Record) (es′ : List Entry) (at : ℕ) → ReadCall s list rs es r rs′ es′ → r .answer ≡ R.Refused 13 at
+      → (w : Widths) × (end : Env) × (gs : List Glyph) × (xs : List Item) × SoundList list w × Allowed s w end gs xs × ((length rs < length gs) ⊎ (length es < length xs))
+  pub rewriter : (s list o : List ℕ) (r : Respelling) (o′ : List ℕ) (w : Widths) (end : Env) (gs : List Glyph) (xs : List Item)
+      → RespellCall s list o r o′ → SoundList list w → (a : Allowed s w end gs xs)
+      → (length o < length (houseSpelling w (a .commands))) ⊎ (16_777_216 < length (houseSpelling w (a .commands))) → r ≡ S.Refused 13 0
+  pub rewriter-only : (s list o o′ : List ℕ) (at : ℕ) → RespellCall s list o (S.Refused 13 at) o′
+      → (w : Widths) × (end : Env) × (gs : List Glyph) × (xs : List Item) × SoundList list w × (a : Allowed s w end gs xs) × ((length o < length (houseSpelling w (a .commands))) ⊎ (16_777_216 < length (houseSpelling w (a .commands))))
+  pub finder : (s list q : List ℕ) (rs : List Record) (hs : List ℕ) (r : Finding) (rs′ : List Record) (hs′ : List ℕ) (gs : List Glyph) (qs : List Wanted) (is : List ℕ)
+      → FindCall s list q rs hs r rs′ hs′ → Accepted s list gs → WellFormed q qs → ListOf qs gs is → (length rs < length gs) ⊎ (length hs < length is) → r ≡ F.Refused 13 0
+  pub finder-only : (s list q : List ℕ) (rs : List Record) (hs : List ℕ) (at : ℕ) (rs′ : List Record) (hs′ : List ℕ) → FindCall s list q rs hs (F.Refused 13 at) rs′ hs′
+      → (gs : List Glyph) × (qs : List Wanted) × (is : List ℕ) × Accepted s list gs × WellFormed q qs × ListOf qs gs is × ((length rs < length gs) ⊎ (length hs < length is))
+
+-- judging (house) tells the room: how many records and entries, how many pages, and how many bytes the spelling has, one more than the limit
+-- where it is over it; or it refuses as the reader does where there is room
+pub record Judge : Type 0 where
+  pub accepted : (s list : List ℕ) (n m pages len : ℕ) → JudgeCall s list (J.Accepted n m pages len)
+      → (w : Widths) × (end : Env) × (gs : List Glyph) × (xs : List Item) × SoundList list w × (a : Allowed s w end gs xs) × (n ≡ length gs) × (m ≡ length xs) × (pages ≡ end .ordinal)
+        × (((len ≡ length (houseSpelling w (a .commands))) × (len ≤ 16_777_216)) ⊎ ((len ≡ 16_777_217) × (16_777_216 < length (houseSpelling w (a .commands)))))
+  pub refused : (s list : List ℕ) (number at : ℕ) → JudgeCall s list (J.Refused number at)
+      → (rs : List Record) (es : List Entry) (r : Reading) (rs′ : List Record) (es′ : List Entry) → ReadCall s list rs es r rs′ es′ → r .answer ≡ R.Refused number at
