@@ -15,7 +15,7 @@ pub extern "C" fn mrkvandel_find(
     records: &mut [Record],
     hits: &mut [u32],
 ) -> FindResult
-    ensures { λ r. ⌜ (a : Finding) × FindCall (now (stream .entry)) (now (widths .entry)) (now (query .entry)) (now (records .entry)) (now (hits .entry)) a (now (records .exit)) (now (hits .exit)) × (r ≡ flatFinding a) ⌝ }
+    ensures { λ r. ⌜ ((a : Finding) × FindCall (now (stream .entry)) (now (widths .entry)) (now (query .entry)) (now (records .entry)) (now (hits .entry)) a (now (records .exit)) (now (hits .exit)) × (r ≡ flatFinding a)) ⌝ }
 {
     let f = find::find(stream, widths, query, records, hits);
     capi_answers::flat_finding(f)

@@ -8,7 +8,7 @@ ghost use Rattle.capi_answers.specs.Flat.{flatJudging};
 // Judging, `judge::judge`.
 #[no_mangle]
 pub extern "C" fn mrkvandel_judge(stream: &[u8], widths: &[u8]) -> JudgeResult
-    ensures { λ r. ⌜ (a : Judging) × JudgeCall (now (stream .entry)) (now (widths .entry)) a × (r ≡ flatJudging a) ⌝ }
+    ensures { λ r. ⌜ ((a : Judging) × JudgeCall (now (stream .entry)) (now (widths .entry)) a × (r ≡ flatJudging a)) ⌝ }
 {
     let j = judge::judge(stream, widths);
     capi_answers::flat_judging(j)

@@ -15,7 +15,7 @@ pub extern "C" fn mrkvandel_read(
     records: &mut [Record],
     entries: &mut [Entry],
 ) -> ReadResult
-    ensures { λ r. ⌜ (a : Reading) × ReadCall (now (stream .entry)) (now (widths .entry)) (now (records .entry)) (now (entries .entry)) a (now (records .exit)) (now (entries .exit)) × (r ≡ flatReading a) ⌝ }
+    ensures { λ r. ⌜ ((a : Reading) × ReadCall (now (stream .entry)) (now (widths .entry)) (now (records .entry)) (now (entries .entry)) a (now (records .exit)) (now (entries .exit)) × (r ≡ flatReading a)) ⌝ }
 {
     let r = read::read(stream, widths, records, entries);
     capi_answers::flat_reading(r)
