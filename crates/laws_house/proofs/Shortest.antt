@@ -1,4 +1,4 @@
--- Numbers are spelt shortest: no zero leads, and no other bytes that say the same number are fewer.
+-- A number is spelt as the grammar has it: no zero leads.
 use Prim.Native.Nat.{ℕ, zero, suc, _+_, _-_, _/_, _%_, _^_, _≤_, _<_}
 use native.Mathlib.Omega.{arith}
 use mathlib.Core.Bool.{Bool, true}
