@@ -1,40 +1,29 @@
 -- A printed act, in front of its newline, is scanned as itself.
-use Prim.Native.Nat.{ℕ, zero, suc, _+_, _-_, _≤_, _<_}
+use Prim.Native.Nat.{ℕ, zero, suc, _+_, _≤_, _<_}
 use native.Mathlib.Omega.{arith}
 use native.Mathlib.Nat.{add-zero}
 use mathlib.Core.Bool.{Bool, true, false, _&&_}
 use mathlib.Core.List.{List, [], _∷_, _++_, map, append-assoc, append-nil}
 use mathlib.Core.Option.{none, some}
 use mathlib.Core.Path.{_≡_, refl, sym, ap, ap₂, _∙_}
-use lib.Dec.{eqb, ltb}
+use lib.Dec.{eqb}
 use lib.ListN.{length, length-append}
 use lib.Seq.{drop-append-seam, take-append-seam}
 use borrow.Author.Tests.{not-true, ne-eqb, eqb-true}
-use Rattle.rules.specs.Bytes.{is, isSpace, isWhite, isNotWhite, isDigit, span, spacer, unspaced, Num, value, integer, most, origin, moved, within, near, Nums, nums, withNum, afterInt, integers, isPresent, manyIntegers, perhapsInteger}
+use Rattle.rules.specs.Bytes.{is, isSpace, isWhite, isNotWhite, isDigit, span, spacer, unspaced, Num, value, integer, moved, near, Nums, nums, withNum, afterInt, integers, isPresent, manyIntegers, perhapsInteger}
 use Rattle.rules.specs.Act.{across, down, Scheme, cmy, default, gray, cmyk, rgb, Shape, line, arc, circle, solidCircle, ellipse, solidEllipse, polygon, solidPolygon, spline, thickness, grayFill, colourFill, Plain, pause, trailer, height, slant, underline, Act, glyph, index, to, by, page, font, size, colour, break, space, draw, device, resolution, init, file, mount, plain, raw, stop, Cmd, just}
 use Rattle.rules.specs.Letters.{Draft, draft, withOne, withAll, named, numberNamed, schemeOf, components, coloured}
 use Rattle.rules.specs.Drawing.{lineEnds, closed, Form, exactly, dummied, paired, formOf, isPaired, drawn, drawing}
 use Rattle.rules.specs.Controls.{resolutionOf, plainCount, plainly, rawText, rawLength, rawly, control}
-use Rattle.rules.specs.Scan.{letter, upTo, isPosition, isPositive, isComponent, isName, shapeLimits, plainLimits, limits, outside, Scan, got, bad, judged, command}
+use Rattle.rules.specs.Scan.{letter, isPosition, isName, limits, outside, Scan, got, bad, judged, command}
 use Rattle.rules.specs.Record.{schemeLetter}
 use Rattle.rules.specs.House.{signedDecimal, args, plusLines, spellAct}
 use Rattle.laws.proofs.Cases.{on, no, and-left, and-right, not-or-left, Stops, span-stops, span-all}
 use Rattle.laws.proofs.Good.{allTrue, Name, Count, Good}
-use Rattle.laws_print.proofs.Decimals.{within-near, numOf, moved-numOf, signed-back, signed-present, present-stops}
+use Rattle.laws.proofs.Limits.{AllNear, component-near, position-near, positive-near, shape-near, plain-near}
+use Rattle.laws_print.proofs.Decimals.{numOf, moved-numOf, signed-back, signed-present, present-stops}
 
 -- ---- printed numbers
-
--- all of them are within the limit of all numbers
-abbrev pub AllNear : List ℕ → Type 0
-AllNear ns = allTrue (map near ns) ≡ true
-
-pub within-all : (lo hi : ℕ) → origin - most ≤ lo → hi ≤ origin + most → (ns : List ℕ) → allTrue (map (within lo hi) ns) ≡ true → AllNear ns
-within-all lo hi l m [] h = refl
-within-all lo hi l m (n ∷ ns) h =
-    rw (
-      within-near lo hi n l m (and-left (within lo hi n) (allTrue (map (within lo hi) ns)) h),
-      within-all lo hi l m ns (and-right (within lo hi n) (allTrue (map (within lo hi) ns)) h),
-    )
 
 -- where each begins, the first of them behind a space that is k bytes behind the command's first
 abbrev startsOf : ℕ → List ℕ → List ℕ
@@ -228,44 +217,6 @@ judge-closed : (a : Act) (ks : List ℕ) (m l j : ℕ) (r : List ℕ) (d : Draft
     → judged (closed d) ≡ got (just a) m j
 unfolding lineEnds
 judge-closed a ks m l j r d h e q = judge a ks m l j (10 ∷ r) (closed d) h (rw e) q
-
-pub upTo-near : (k : ℕ) (ns : List ℕ) → allTrue (upTo k ns) ≡ true → AllNear ns
-upTo-near k [] h = refl
-upTo-near k (n ∷ ns) h =
-    rw (
-      and-right (ltb 0 k) (near n) (and-left (ltb 0 k && near n) (allTrue (upTo (k - 1) ns)) h),
-      upTo-near (k - 1) ns (and-right (ltb 0 k && near n) (allTrue (upTo (k - 1) ns)) h),
-    )
-
-component-near : (ns : List ℕ) → allTrue (map isComponent ns) ≡ true → AllNear ns
-component-near ns h = within-all origin (origin + 65536) (omega arith) (omega arith) ns h
-
-position-near : (n : ℕ) → isPosition n ≡ true → AllNear (n ∷ [])
-position-near n h = within-all origin (origin + 255) (omega arith) (omega arith) (n ∷ []) (rw h)
-
-positive-near : (ns : List ℕ) → allTrue (map isPositive ns) ≡ true → AllNear ns
-positive-near ns h = within-all (origin + 1) (origin + most) (omega arith) (omega arith) ns h
-
-shape-near : (s : Shape) (ns : List ℕ) → allTrue (shapeLimits s ns) ≡ true → AllNear ns
-shape-near line ns h = h
-shape-near arc ns h = h
-shape-near circle ns h = h
-shape-near solidCircle ns h = h
-shape-near ellipse ns h = h
-shape-near solidEllipse ns h = h
-shape-near polygon ns h = upTo-near 64 ns h
-shape-near solidPolygon ns h = upTo-near 64 ns h
-shape-near spline ns h = upTo-near 64 ns h
-shape-near thickness ns h = h
-shape-near grayFill ns h = within-all (origin - 32767) (origin + 32767) (omega arith) (omega arith) ns h
-shape-near (colourFill c) ns h = component-near ns h
-
-plain-near : (c : Plain) (ns : List ℕ) → allTrue (plainLimits c ns) ≡ true → AllNear ns
-plain-near pause ns h = h
-plain-near trailer ns h = h
-plain-near height ns h = h
-plain-near slant ns h = h
-plain-near underline ns h = within-all origin (origin + 1) (omega arith) (omega arith) ns h
 
 -- ---- every act
 

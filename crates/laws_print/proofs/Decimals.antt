@@ -5,26 +5,13 @@ use native.Mathlib.Nat.{zero-add}
 use mathlib.Core.Bool.{Bool, true, false}
 use mathlib.Core.List.{List, [], _∷_, _++_}
 use mathlib.Core.Path.{_≡_, refl, ap}
-use lib.Dec.{leb, ltb, eqb, lit<}
+use lib.Dec.{ltb, eqb, lit<}
 use lib.ListN.{length, length-append}
-use borrow.Author.Tests.{leb-true, le-leb, ne-eqb, eqb-true, ltb-true, ltb-false}
-use Rattle.rules.specs.Bytes.{if_then_else_, is, isSpace, isDigit, value, Num, int, signed, integer, isPresent, most, origin, moved, within, near}
+use borrow.Author.Tests.{ne-eqb, eqb-true, ltb-true, ltb-false}
+use Rattle.rules.specs.Bytes.{if_then_else_, is, isSpace, isDigit, value, Num, int, signed, integer, isPresent, most, origin, moved, near}
 use Rattle.rules.specs.House.{digitsOf, decimal, signedDecimal}
-use Rattle.laws.proofs.Cases.{on, no, and-left, and-right, All, Stops, All·append, span-all}
-
--- ---- limits
-
-pub within-bounds : (lo hi n : ℕ) → within lo hi n ≡ true → (lo ≤ n) × (n ≤ hi)
-within-bounds lo hi n h = (leb-true lo n (and-left (leb lo n) (leb n hi) h), leb-true n hi (and-right (leb lo n) (leb n hi) h))
-
--- every limit of a number lies within the limit of all
-pub within-near : (lo hi n : ℕ) → origin - most ≤ lo → hi ≤ origin + most → within lo hi n ≡ true → near n ≡ true
-within-near lo hi n l m h =
-    let b : (lo ≤ n) × (n ≤ hi) = within-bounds lo hi n h in
-    rw (le-leb (origin - most) n (omega arith), le-leb n (origin + most) (omega arith))
-
-pub near-bounds : (n : ℕ) → near n ≡ true → (origin - most ≤ n) × (n ≤ origin + most)
-near-bounds n h = within-bounds (origin - most) (origin + most) n h
+use Rattle.laws.proofs.Cases.{on, no, All, Stops, All·append, span-all}
+use Rattle.laws.proofs.Limits.{within-bounds, near-bounds, digit}
 
 -- ---- digits
 
@@ -37,9 +24,6 @@ value-all : (n : ℕ) (xs r : List ℕ) → All isDigit xs → value n (xs ++ r)
 unfolding value
 value-all n [] r h = refl
 value-all n (x ∷ xs) r h = rw (h .0) (value-all (n * 10 + (x - 48)) xs r (h .1))
-
-digit : (d : ℕ) → d < 10 → isDigit (48 + d) ≡ true
-digit d h = rw (le-leb 48 (48 + d) (omega arith), le-leb (48 + d) 57 (omega arith))
 
 digitsOf-all : (f n : ℕ) → n < 10 ^ suc f → All isDigit (digitsOf f n)
 unfolding digitsOf

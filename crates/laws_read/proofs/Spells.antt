@@ -15,7 +15,7 @@ use Rattle.rules.specs.Widths.{Widths, Font, widthOf}
 use Rattle.rules.specs.State.{Spot, corner, get, put, fitsAll, plusAll, mayGo, spotAfter, filled, fits, plus, withFont, recorded, indexed, mountedAt, isMounted, Env, start, setSpot, setGap, setFont, setFillPaint, Glyph, Item, itemAt, Step, refused, went, before, andThen, onPage, due, effect, act, run, Acts, noActs, these, perform, ready, byteActs, wordActs, wordIn, acts}
 use Rattle.rules.specs.House.{Manner, anchored, floating, turning, moving, manner, moves, kept, pen, onward, house, playOn, played}
 use Rattle.laws.proofs.Cases.{All, on, and-left, and-right}
-use Rattle.laws.proofs.Good.{allTrue, Name, Shaped, Good, AllGood, GoodCmd, AllCmds}
+use Rattle.laws.proofs.Good.{allTrue, Name, Shaped, Good, AllActs, AllGood, GoodCmd, AllCmds}
 
 -- ---- every place is within the limit
 
@@ -100,33 +100,33 @@ effect-near stop g e h = h
 
 -- ---- acts of good commands
 
--- it is good if it is written, and it keeps to the limit
-abbrev Written : Manner → Act → Type 0
-Written anchored a = Good a
-Written floating a = Good a
-Written turning a = Good a
-Written moving a = Unit {0}
+-- what holds of an act if it is written
+abbrev pub Written : Manner → Type 0 → Type 0
+Written anchored A = A
+Written floating A = A
+Written turning A = A
+Written moving A = Unit {0}
 
+-- it is good if it is written, and it keeps to the limit
 abbrev pub Fair : Act → Type 0
-Fair a = Written (manner a) a × Steady a
+Fair a = Written (manner a) (Good a) × Steady a
 
 abbrev pub AllFair : List Act → Type 0
-AllFair [] = Unit {0}
-AllFair (a ∷ xs) = Fair a × AllFair xs
+AllFair xs = AllActs Fair xs
 
-AllFair·append : (xs ys : List Act) → AllFair xs → AllFair ys → AllFair (xs ++ ys)
-AllFair·append [] ys h k = k
-AllFair·append (x ∷ xs) ys h k = (h .0, AllFair·append xs ys (h .1) k)
+AllActs·append : (P : Act → Type 0) (xs ys : List Act) → AllActs P xs → AllActs P ys → AllActs P (xs ++ ys)
+AllActs·append P [] ys h k = k
+AllActs·append P (x ∷ xs) ys h k = (h .0, AllActs·append P xs ys (h .1) k)
 
-written : (m : Manner) (a : Act) → Good a → Written m a
-written anchored a g = g
-written floating a g = g
-written turning a g = g
-written moving a g = tt
+written : (m : Manner) (A : Type 0) → A → Written m A
+written anchored A g = g
+written floating A g = g
+written turning A g = g
+written moving A g = tt
 
 fair : (a : Act) → Good a → Fair a
 unfolding act
-fair a g = (written (manner a) a g, λ e h. if-near (due e a) (effect e a) 7 (λ k. effect-near a g e h))
+fair a g = (written (manner a) (Good a) g, λ e h. if-near (due e a) (effect e a) 7 (λ k. effect-near a g e h))
 
 byte-good : (b : ℕ) → isNotWhite b ≡ true → Good (glyph (b ∷ []))
 byte-good b h = (refl, record { whole = (h, tt); some = omega arith })
@@ -188,36 +188,35 @@ module _ (w : Widths) where
 
       all : (x : Acts) → FairActs x → ((d : Env) → AllFair (played w d (bare more))) → AllFair (playOn e (λ d. played w d (bare more)) x)
       all (noActs n) h f = tt
-      all (these xs) h f = AllFair·append xs (onward (λ d. played w d (bare more)) (run e xs)) h (some-of (run e xs) f)
+      all (these xs) h f = AllActs·append Fair xs (onward (λ d. played w d (bare more)) (run e xs)) h (some-of (run e xs) f)
 
 -- ---- the spelling
 
-AllGood·append : (xs ys : List Act) → AllGood xs → AllGood ys → AllGood (xs ++ ys)
-AllGood·append [] ys h k = k
-AllGood·append (x ∷ xs) ys h k = (h .0, AllGood·append xs ys (h .1) k)
+-- what holds of `H` and `V` within the limit, and of every good act that is written, holds of every act of the spelling
+module _ (P : Act → Type 0) (t : (x : Axis) (n : ℕ) → near n ≡ true → P (to x n)) (w : (a : Act) → Written (manner a) (Good a) → Written (manner a) (P a)) where
+  moves-all : (p q : Spot) → Near q → AllActs P (moves p q)
+  moves-all p q h =
+      on (eqb (q .h) (p .h))
+      (λ c. on (eqb (q .v) (p .v)) (λ d. rw (c, d) tt) (λ d. rw (c, d) (t down (q .v) (h .1), tt)))
+      (λ c. on (eqb (q .v) (p .v)) (λ d. rw (c, d) (t across (q .h) (h .0), tt)) (λ d. rw (c, d) (t across (q .h) (h .0), (t down (q .v) (h .1), tt))))
 
-to-good : (x : Axis) (n : ℕ) → near n ≡ true → Good (to x n)
-to-good x n h = (rw h, tt)
+  kept-all : (m : Manner) (p q : Spot) (a : Act) → Near q → Written m (P a) → AllActs P (kept m p q a)
+  kept-all anchored p q a h g = AllActs·append P (moves p q) (a ∷ []) (moves-all p q h) (g, tt)
+  kept-all floating p q a h g = (g, tt)
+  kept-all turning p q a h g = (g, tt)
+  kept-all moving p q a h g = tt
 
-moves-good : (p q : Spot) → Near q → AllGood (moves p q)
-moves-good p q h =
-    on (eqb (q .h) (p .h))
-    (λ c. on (eqb (q .v) (p .v)) (λ d. rw (c, d) tt) (λ d. rw (c, d) (to-good down (q .v) (h .1), tt)))
-    (λ c. on (eqb (q .v) (p .v)) (λ d. rw (c, d) (to-good across (q .h) (h .0), tt)) (λ d. rw (c, d) (to-good across (q .h) (h .0), (to-good down (q .v) (h .1), tt))))
-
-kept-good : (m : Manner) (p q : Spot) (a : Act) → Near q → Written m a → AllGood (kept m p q a)
-kept-good anchored p q a h g = AllGood·append (moves p q) (a ∷ []) (moves-good p q h) (g, tt)
-kept-good floating p q a h g = (g, tt)
-kept-good turning p q a h g = (g, tt)
-kept-good moving p q a h g = tt
+  pub house-all : (xs : List Act) (e : Env) (p : Spot) → AllFair xs → Near (e .spot) → AllActs P (house e p xs)
+  unfolding house
+  house-all [] e p f h = tt
+  house-all (a ∷ xs) e p f h =
+      AllActs·append P (kept (manner a) p (e .spot) a) _ (kept-all (manner a) p (e .spot) a h (w a (f .0 .0)))
+      (go (act e a) (f .0 .1 e h) (λ d q k. house-all xs d q (f .1) k))
+    where
+      go : (x : Step) → NearAfter x → ((d : Env) (q : Spot) → Near (d .spot) → AllActs P (house d q xs))
+          → AllActs P (onward (λ d. house d (pen (manner a) p (d .spot)) xs) x)
+      go (refused n) k more = tt
+      go (went d gs is) k more = more d (pen (manner a) p (d .spot)) k
 
 pub house-good : (xs : List Act) (e : Env) (p : Spot) → AllFair xs → Near (e .spot) → AllGood (house e p xs)
-unfolding house
-house-good [] e p f h = tt
-house-good (a ∷ xs) e p f h =
-    AllGood·append (kept (manner a) p (e .spot) a) _ (kept-good (manner a) p (e .spot) a h (f .0 .0)) (go (act e a) (f .0 .1 e h) (λ d q k. house-good xs d q (f .1) k))
-  where
-    go : (x : Step) → NearAfter x → ((d : Env) (q : Spot) → Near (d .spot) → AllGood (house d q xs))
-        → AllGood (onward (λ d. house d (pen (manner a) p (d .spot)) xs) x)
-    go (refused n) k more = tt
-    go (went d gs is) k more = more d (pen (manner a) p (d .spot)) k
+house-good = house-all Good (λ x n h. (rw h, tt)) (λ a g. g)

@@ -4,9 +4,9 @@ use native.Mathlib.Omega.{arith}
 use mathlib.Core.Bool.{Bool, true, false, _&&_}
 use mathlib.Core.List.{List, [], _∷_, map}
 use mathlib.Core.Path.{_≡_, refl, sym, ap, _∙_}
-use lib.Dec.{leb, ltb, eqb}
+use lib.Dec.{ltb, eqb}
 use lib.ListN.{length, drop, getD, length-drop}
-use borrow.Author.Tests.{leb-true, ltb-true}
+use borrow.Author.Tests.{ltb-true}
 use Rattle.rules.specs.Bytes.{if_then_else_, origin, most, within, near}
 use Rattle.rules.specs.Act.{Axis, across, down, Shape, line, arc, circle, solidCircle, ellipse, solidEllipse, polygon, solidPolygon, spline, thickness, grayFill, colourFill, Act, glyph, index, to, by, page, font, size, colour, break, space, draw, device, resolution, init, file, mount, plain, raw, stop, Cmd, just, word, pair}
 use Rattle.rules.specs.Drawing.{Way, pairwise, firstAcross, wayOf}
@@ -17,6 +17,7 @@ use Rattle.rules.specs.declared.Colour.{Colour}
 use Rattle.scan_command.specs.View.{drawOf, actOf, cmdOf, commandOf, commandAt}
 use Rattle.laws.proofs.Cases.{no, if-both, if-on, and-left, and-right, not-zero}
 use Rattle.laws.proofs.Good.{allTrue, Name, Shaped, Good, GoodCmd}
+use Rattle.laws.proofs.Limits.{within-bounds, upTo-near, upTo-few}
 use Rattle.laws_scan.proofs.Fair.{GoodScan, command-good}
 use Rattle.laws_scan.proofs.Bounds.{actText, textOf, Within, GotIn, command-in}
 use Rattle.read_model.specs.declared.Environment.{Environment}
@@ -29,10 +30,10 @@ use Rattle.read_model.specs.Fits.{EnvFits, Ends, CommandIn, isRefused}
 
 -- a number within limits that are below twice the origin
 within-most : (lo hi n : ℕ) → within lo hi n ≡ true → n ≤ hi
-within-most lo hi n h = leb-true n hi (and-right (leb lo n) (leb n hi) h)
+within-most lo hi n h = within-bounds lo hi n h .1
 
 within-least : (lo hi n : ℕ) → within lo hi n ≡ true → lo ≤ n
-within-least lo hi n h = leb-true lo n (and-left (leb lo n) (leb n hi) h)
+within-least lo hi n h = within-bounds lo hi n h .0
 
 -- ---- drawings: sums of k numbers, each below twice the origin
 
@@ -54,14 +55,6 @@ pair-terms [] = omega arith
 pair-terms (x ∷ []) = omega arith
 pair-terms (x ∷ y ∷ ns) = omega (arith, pair-terms ns)
 
-up-to : (k : ℕ) (ns : List ℕ) → allTrue (upTo k ns) ≡ true → (length ns ≤ k) × (allTrue (map near ns) ≡ true)
-up-to k [] h = (omega arith, refl)
-up-to k (n ∷ ns) h =
-    let a : (ltb 0 k && near n) ≡ true = and-left (ltb 0 k && near n) (allTrue (upTo (k - 1) ns)) h in
-    let z : 0 < k = ltb-true 0 k (and-left (ltb 0 k) (near n) a) in
-    let r : (length ns ≤ k - 1) × (allTrue (map near ns) ≡ true) = up-to (k - 1) ns (and-right (ltb 0 k && near n) (allTrue (upTo (k - 1) ns)) h) in
-    (omega (arith, r .0), rw (and-right (ltb 0 k) (near n) a, r .1))
-
 first-summed : (ns : List ℕ) → allTrue (map near ns) ≡ true → Summed (firstAcross ns) × (firstAcross ns .terms ≤ 64)
 first-summed [] h = ((omega arith, omega arith), omega arith)
 first-summed (x ∷ ns) h = ((omega (arith, within-most (origin - most) (origin + most) x (and-left (near x) (allTrue (map near ns)) h)), omega arith), omega arith)
@@ -73,7 +66,7 @@ module _ (at n q : ℕ) (z : Ends at n q) where
 
   polygon-in : (x : Shape) (ns : List ℕ) → wayOf x ns ≡ pairwise ns → allTrue (upTo 64 ns) ≡ true
       → (Ends at n q) × (wayOf x ns .dh ≤ wayOf x ns .terms * (2 * origin)) × (wayOf x ns .dv ≤ wayOf x ns .terms * (2 * origin)) × (wayOf x ns .terms ≤ 64)
-  polygon-in x ns e h = pairs-in x ns e (up-to 64 ns h .1) (up-to 64 ns h .0)
+  polygon-in x ns e h = pairs-in x ns e (upTo-near 64 ns h) (upTo-few 64 ns h)
 
   first-in : (x : Shape) (ns : List ℕ) → wayOf x ns ≡ firstAcross ns → allTrue (map near ns) ≡ true
       → (Ends at n q) × (wayOf x ns .dh ≤ wayOf x ns .terms * (2 * origin)) × (wayOf x ns .dv ≤ wayOf x ns .terms * (2 * origin)) × (wayOf x ns .terms ≤ 64)

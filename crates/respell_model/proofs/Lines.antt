@@ -20,11 +20,10 @@ use Rattle.rules.specs.House.{Manner, anchored, floating, turning, moving, mann
 use Rattle.rules.specs.House as H
 use Rattle.laws.proofs.Cases.{on, no, if-both, if-on, and-left, and-right}
 use Rattle.laws.proofs.Good.{allTrue, Good}
+use Rattle.laws.proofs.Limits.{within-bounds, within-near, near-bounds, AllNear, within-all, upTo-near}
 use Rattle.laws_scan.proofs.Bounds.{At, at-first, at-by, at-unspaced, at-next, span-le, Stands, actText, GotIn, command-in}
 use Rattle.laws_scan.proofs.Fair.{NumsAre, counted, command-good}
 use Rattle.laws_scan.proofs.Walk.{cons-at}
-use Rattle.laws_print.proofs.Back.{AllNear, within-all, upTo-near}
-use Rattle.laws_print.proofs.Decimals.{within-bounds, within-near, near-bounds}
 use Rattle.scan_command.specs.View.{part, actOf}
 use Rattle.scan_command.proofs.Shift.{shifted, integers-shift, many-shift}
 use Rattle.scan_arguments.specs.declared.One.the-variants as A

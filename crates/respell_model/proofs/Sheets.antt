@@ -12,7 +12,7 @@ use Rattle.rules.specs.Bytes.{most, origin, near}
 use Rattle.rules.specs.House.{signedDecimal}
 use Rattle.rules.specs.Record.{over}
 use Rattle.laws.proofs.Cases.{on, if-on}
-use Rattle.laws_print.proofs.Decimals.{near-bounds}
+use Rattle.laws.proofs.Limits.{near-bounds}
 use Rattle.respell_model.specs.Sheet.{Sheet, further, put, putAll, small, signedSmall}
 
 -- ---- one text behind another

@@ -1,0 +1,3 @@
+pub mod Shortest
+pub mod Least
+pub mod Spelt
