@@ -14,29 +14,8 @@ use Rattle.rules.specs.Drawing.{wayOf}
 use Rattle.rules.specs.State.{Paint, Env, Glyph, Item, get, put, fits, plus, mayGo, spotAfter, filled, mountedAt, isMounted, setSpot, setFont, setGap, setFillPaint, itemAt, item, newPage, withFont, recorded, indexed, Step, refused, went, due, effect, act}
 use Rattle.rules.specs.Record.{shown, lettersOf, schemeLetter, colourOf}
 use Rattle.laws.proofs.Cases.{on, no}
+use Rattle.laws_motion.proofs.Steps.{After, if-after, font-after, behind}
 use Rattle.laws_motion.specs.Records.{OneRecord, mayRecord, Recorded, shapeLetters, plainLetters, letters, three, placeIn, OneEntry, isSome, Entered, NewPage, isPage, Settings, schemeChar, ColourHolds, Ends}
-
--- ---- what holds behind an act, where it was not refused
-
-abbrev After : (Env → List Glyph → List Item → Type 0) → Step → Type 0
-After P (refused n) = Unit {0}
-After P (went e gs xs) = P e gs xs
-
-module _ (P : Env → List Glyph → List Item → Type 0) where
-  if-after : (b : Bool) (x : Step) (n : ℕ) → After P x → After P (if b then x else refused n)
-  if-after true x n h = h
-  if-after false x n h = tt
-
-  font-after : (e : Env) (go : ℕ → Step) (o : Option ℕ) → e .font ≡ o → ((f : ℕ) → e .font ≡ some f → After P (go f)) → After P (withFont e go o)
-  font-after e go none k h = tt
-  font-after e go (some f) k h = if-after (ltb 0 (e .size)) (go f) 8 (h f k)
-
-  act-after : (e : Env) (a : Act) → After P (effect e a) → After P (act e a)
-  unfolding act
-  act-after e a h = if-after (due e a) (effect e a) 7 h
-
-  behind : (e e′ : Env) (gs : List Glyph) (xs : List Item) (a : Act) → After P (effect e a) → act e a ≡ went e′ gs xs → P e′ gs xs
-  behind e e′ gs xs a h k = rw k at (act-after e a h)
 
 -- ---- the sign of a number
 
@@ -83,14 +62,14 @@ no-glyph : (e : Env) (a : Act) → mayRecord a ≡ false → After (λ d gs xs. 
 no-glyph e (glyph n) h = no (sym h)
 no-glyph e (index n) h = no (sym h)
 no-glyph e (to x n) h = refl
-no-glyph e (by x n) h = if-after (λ d gs xs. gs ≡ []) (fits (get x (e .spot)) n) _ 10 refl
+no-glyph e (by x n) h = if-after (λ d gs xs. gs ≡ []) (fits (get x (e .spot)) n) _ 10 (λ t. refl)
 no-glyph e (page n) h = refl
-no-glyph e (font n) h = if-after (λ d gs xs. gs ≡ []) (isMounted (mountedAt (n - origin) (e .mounts))) _ 8 refl
+no-glyph e (font n) h = if-after (λ d gs xs. gs ≡ []) (isMounted (mountedAt (n - origin) (e .mounts))) _ 8 (λ t. refl)
 no-glyph e (size n) h = refl
 no-glyph e (colour c ns) h = refl
 no-glyph e break h = refl
 no-glyph e space h = refl
-no-glyph e (draw s ns) h = if-after (λ d gs xs. gs ≡ []) (mayGo (e .spot) (wayOf s ns)) _ 10 refl
+no-glyph e (draw s ns) h = if-after (λ d gs xs. gs ≡ []) (mayGo (e .spot) (wayOf s ns)) _ 10 (λ t. refl)
 no-glyph e (device n) h = refl
 no-glyph e (resolution n m v) h = refl
 no-glyph e init h = refl
@@ -157,7 +136,7 @@ one-entry e (size n) h = no h
 one-entry e (colour c ns) h = no h
 one-entry e break h = no h
 one-entry e space h = no h
-one-entry e (draw s ns) h = if-after (λ d gs xs. OneEntry e (draw s ns) xs) (mayGo (e .spot) (wayOf s ns)) _ 10 (shape-entry e s ns)
+one-entry e (draw s ns) h = if-after (λ d gs xs. OneEntry e (draw s ns) xs) (mayGo (e .spot) (wayOf s ns)) _ 10 (λ t. shape-entry e s ns)
 one-entry e (device n) h = control-entry e (device n) refl (λ z. refl)
 one-entry e (resolution n m v) h = control-entry e (resolution n m v) refl (λ z. refl)
 one-entry e init h = control-entry e init refl (λ z. refl)
@@ -196,9 +175,9 @@ no-entry : (e : Env) (a : Act) → isSome (bytes (letters a)) ≡ false → Afte
 no-entry e (glyph n) h = font-after (λ d gs xs. xs ≡ []) e (recorded e n 0) (e .font) refl (λ f k. refl)
 no-entry e (index n) h = font-after (λ d gs xs. xs ≡ []) e (indexed e n) (e .font) refl (λ f k. on (ltb n origin) (λ j. rw j refl) (λ j. rw j refl))
 no-entry e (to x n) h = refl
-no-entry e (by x n) h = if-after (λ d gs xs. xs ≡ []) (fits (get x (e .spot)) n) _ 10 refl
+no-entry e (by x n) h = if-after (λ d gs xs. xs ≡ []) (fits (get x (e .spot)) n) _ 10 (λ t. refl)
 no-entry e (page n) h = refl
-no-entry e (font n) h = if-after (λ d gs xs. xs ≡ []) (isMounted (mountedAt (n - origin) (e .mounts))) _ 8 refl
+no-entry e (font n) h = if-after (λ d gs xs. xs ≡ []) (isMounted (mountedAt (n - origin) (e .mounts))) _ 8 (λ t. refl)
 no-entry e (size n) h = refl
 no-entry e (colour c ns) h = refl
 no-entry e break h = refl
@@ -230,14 +209,14 @@ same-page e (index n) h =
     font-after (λ d gs xs. (d .ordinal ≡ e .ordinal) × (d .number ≡ e .number)) e (indexed e n) (e .font) refl
     (λ f k. on (ltb n origin) (λ j. rw j (refl, refl)) (λ j. rw j (refl, refl)))
 same-page e (to x n) h = (refl, refl)
-same-page e (by x n) h = if-after (λ d gs xs. (d .ordinal ≡ e .ordinal) × (d .number ≡ e .number)) (fits (get x (e .spot)) n) _ 10 (refl, refl)
+same-page e (by x n) h = if-after (λ d gs xs. (d .ordinal ≡ e .ordinal) × (d .number ≡ e .number)) (fits (get x (e .spot)) n) _ 10 (λ t. (refl, refl))
 same-page e (page n) h = no (sym h)
-same-page e (font n) h = if-after (λ d gs xs. (d .ordinal ≡ e .ordinal) × (d .number ≡ e .number)) (isMounted (mountedAt (n - origin) (e .mounts))) _ 8 (refl, refl)
+same-page e (font n) h = if-after (λ d gs xs. (d .ordinal ≡ e .ordinal) × (d .number ≡ e .number)) (isMounted (mountedAt (n - origin) (e .mounts))) _ 8 (λ t. (refl, refl))
 same-page e (size n) h = (refl, refl)
 same-page e (colour c ns) h = (refl, refl)
 same-page e break h = (refl, refl)
 same-page e space h = (refl, refl)
-same-page e (draw s ns) h = if-after (λ d gs xs. (d .ordinal ≡ e .ordinal) × (d .number ≡ e .number)) (mayGo (e .spot) (wayOf s ns)) _ 10 (refl, refl)
+same-page e (draw s ns) h = if-after (λ d gs xs. (d .ordinal ≡ e .ordinal) × (d .number ≡ e .number)) (mayGo (e .spot) (wayOf s ns)) _ 10 (λ t. (refl, refl))
 same-page e (device n) h = (refl, refl)
 same-page e (resolution n m v) h = (refl, refl)
 same-page e init h = (refl, refl)
@@ -248,7 +227,7 @@ same-page e (raw t) h = (refl, refl)
 same-page e stop h = (refl, refl)
 
 font-set : (e : Env) (n i : ℕ) → shown n ≡ pos i → After (λ d gs xs. d .font ≡ some i) (effect e (font n))
-font-set e n i h = if-after (λ d gs xs. d .font ≡ some i) (isMounted (mountedAt (n - origin) (e .mounts))) _ 8 (ap some (shown-pos n i h .1))
+font-set e n i h = if-after (λ d gs xs. d .font ≡ some i) (isMounted (mountedAt (n - origin) (e .mounts))) _ 8 (λ t. ap some (shown-pos n i h .1))
 
 pub settings-hold : Settings
 settings-hold = record {

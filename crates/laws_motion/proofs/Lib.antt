@@ -1,1 +1,4 @@
+pub mod Steps
 pub mod Held
+pub mod Integers
+pub mod Moved

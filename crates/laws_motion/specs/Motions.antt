@@ -1,0 +1,202 @@
+-- Document 01, motions over the integers: of every command that moves, the place afterwards is the place before plus the numbers that the
+-- command has, each as the integer that its text says, so that nobody has to believe the numbers that are moved up. `hBehind` and
+-- `vBehind` are 01's tables again, apart from those of the rules (`wayOf`, `plus`, `plusAll`). Proofs: `proofs/Moved.antt`.
+use Prim.Native.Nat.{ℕ, _-_, _<_, _≤_}
+use mathlib.Core.Bool.{Bool, true, false}
+use mathlib.Core.List.{List, [], _∷_, _++_, map}
+use mathlib.Core.Logic.{_⊎_}
+use mathlib.Core.Option.{Option, none, some}
+use mathlib.Core.Path.{_≡_}
+use lib.IntN.{ℤ, pos, negℤ, natAbs, _+ℤ_}
+use lib.ListN.{length, getD}
+use Rattle.rules.specs.Bytes.{if_then_else_, origin, Num, moved, near}
+use Rattle.rules.specs.Act.{Axis, across, down, Shape, line, arc, circle, solidCircle, ellipse, solidEllipse, polygon, solidPolygon, spline, thickness, grayFill, colourFill, Act, glyph, index, to, by, page, font, size, colour, break, space, draw, device, resolution, init, file, mount, plain, raw, stop, Cmd, just, word, pair}
+use Rattle.rules.specs.Scan.{commands, bare}
+use Rattle.rules.specs.Widths.{Widths, widthOf, advance}
+use Rattle.rules.specs.State.{Env, start, Glyph, Item, mountedAt, due, refused, went, act, these, acts, perform, steps}
+use Rattle.rules.specs.Record.{shown}
+
+-- ---- "Its magnitude is at most 99,999,999"; "h or v beyond 99,999,999 either way"
+
+abbrev pub InLimit : ℤ → Type 0
+InLimit z = natAbs z ≤ 99_999_999
+
+abbrev pub Beyond : ℤ → Type 0
+Beyond z = 99_999_999 < natAbs z
+
+-- what a sign and a magnitude say
+abbrev pub said : Num → ℤ
+said n = if n .neg then negℤ (pos (n .mag)) else pos (n .mag)
+
+pub record Numbers : Type 0 where
+  -- a number within its limit stands for what its text says
+  pub stands-for : (n : Num) → n .mag ≤ 99_999_999 → shown (moved n) ≡ said n
+  -- "`-0` is 0."
+  pub minus-0 : (n : Num) → n .mag ≡ 0 → shown (moved n) ≡ pos 0
+  -- the rules' test is the limit, of a text and of any number that is moved up
+  pub limit : (n : Num) → near (moved n) ≡ true → n .mag ≤ 99_999_999
+  pub limit-met : (n : Num) → n .mag ≤ 99_999_999 → near (moved n) ≡ true
+  pub near-is : (n : ℕ) → near n ≡ true → InLimit (shown n)
+  pub near-of : (n : ℕ) → InLimit (shown n) → near n ≡ true
+
+-- ---- "Drawing": the columns "arguments" and "motion"
+
+-- the k-th argument, counted from 1
+abbrev pub nth : ℕ → List ℤ → ℤ
+nth k zs = getD zs (k - 1) (pos 0)
+
+abbrev pub oddPlaced : List ℤ → List ℤ
+oddPlaced [] = []
+oddPlaced (x ∷ []) = x ∷ []
+oddPlaced (x ∷ y ∷ r) = x ∷ oddPlaced r
+
+abbrev pub evenPlaced : List ℤ → List ℤ
+evenPlaced [] = []
+evenPlaced (x ∷ []) = []
+evenPlaced (x ∷ y ∷ r) = y ∷ evenPlaced r
+
+abbrev pub sum : List ℤ → ℤ
+sum [] = pos 0
+sum (z ∷ zs) = z +ℤ sum zs
+
+abbrev pub Even : List ℕ → Type 0
+Even [] = Unit {0}
+Even (x ∷ []) = ⊥
+Even (x ∷ y ∷ r) = Even r
+
+-- "arguments"; a dummy is none of them
+abbrev pub Arguments : Shape → List ℕ → Type 0
+Arguments line ns = length ns ≡ 2  -- "h v"
+Arguments arc ns = length ns ≡ 4  -- "h1 v1 h2 v2"
+Arguments circle ns = length ns ≡ 1  -- "d, optional dummy"
+Arguments solidCircle ns = length ns ≡ 1
+Arguments ellipse ns = length ns ≡ 2  -- "h v"
+Arguments solidEllipse ns = length ns ≡ 2
+Arguments polygon ns = Even ns  -- "2 to 64 integers, an even number"
+Arguments solidPolygon ns = Even ns
+Arguments spline ns = Even ns
+Arguments thickness ns = Unit {0}
+Arguments grayFill ns = Unit {0}
+Arguments (colourFill c) ns = Unit {0}
+
+-- "motion", across
+abbrev pub drawnAcross : Shape → List ℤ → ℤ
+drawnAcross line zs = nth 1 zs  -- "+h, +v"
+drawnAcross arc zs = nth 1 zs +ℤ nth 3 zs  -- "+h1+h2, +v1+v2"
+drawnAcross circle zs = nth 1 zs  -- "+d, 0"
+drawnAcross solidCircle zs = nth 1 zs
+drawnAcross ellipse zs = nth 1 zs  -- "+h, 0"
+drawnAcross solidEllipse zs = nth 1 zs
+drawnAcross polygon zs = sum (oddPlaced zs)  -- "+ sum of the odd-placed, + sum of the even-placed"
+drawnAcross solidPolygon zs = sum (oddPlaced zs)
+drawnAcross spline zs = sum (oddPlaced zs)
+drawnAcross thickness zs = pos 0  -- "none"
+drawnAcross grayFill zs = pos 0
+drawnAcross (colourFill c) zs = pos 0
+
+-- and down
+abbrev pub drawnDown : Shape → List ℤ → ℤ
+drawnDown line zs = nth 2 zs
+drawnDown arc zs = nth 2 zs +ℤ nth 4 zs
+drawnDown circle zs = pos 0
+drawnDown solidCircle zs = pos 0
+drawnDown ellipse zs = pos 0
+drawnDown solidEllipse zs = pos 0
+drawnDown polygon zs = sum (evenPlaced zs)
+drawnDown solidPolygon zs = sum (evenPlaced zs)
+drawnDown spline zs = sum (evenPlaced zs)
+drawnDown thickness zs = pos 0
+drawnDown grayFill zs = pos 0
+drawnDown (colourFill c) zs = pos 0
+
+-- ---- "Commands of one letter": h and v behind an act, by h and v before it
+
+abbrev pub hBehind : Act → ℤ → ℤ
+hBehind (glyph n) h = h  -- "no motion"
+hBehind (index n) h = h
+hBehind (to across n) h = shown n  -- "`H` `h` `V` `v` n: h = n, h + n, v = n, v + n"
+hBehind (to down n) h = h
+hBehind (by across n) h = h +ℤ shown n
+hBehind (by down n) h = h
+hBehind (page n) h = h  -- "v = 0; h .. stay"
+hBehind (font n) h = h
+hBehind (size n) h = h
+hBehind (colour c ns) h = h
+hBehind break h = h
+hBehind space h = h
+hBehind (draw s ns) h = h +ℤ drawnAcross s (map shown ns)
+hBehind (device n) h = h
+hBehind (resolution n m v) h = h
+hBehind init h = h
+hBehind (file n) h = h
+hBehind (mount n m) h = h
+hBehind (plain c ns) h = h
+hBehind (raw t) h = h
+hBehind stop h = h
+
+abbrev pub vBehind : Act → ℤ → ℤ
+vBehind (glyph n) v = v
+vBehind (index n) v = v
+vBehind (to across n) v = v
+vBehind (to down n) v = shown n
+vBehind (by across n) v = v
+vBehind (by down n) v = v +ℤ shown n
+vBehind (page n) v = pos 0
+vBehind (font n) v = v
+vBehind (size n) v = v
+vBehind (colour c ns) v = v
+vBehind break v = v
+vBehind space v = v
+vBehind (draw s ns) v = v +ℤ drawnDown s (map shown ns)
+vBehind (device n) v = v
+vBehind (resolution n h m) v = v
+vBehind init v = v
+vBehind (file n) v = v
+vBehind (mount n m) v = v
+vBehind (plain c ns) v = v
+vBehind (raw t) v = v
+vBehind stop v = v
+
+-- ---- one act
+
+-- what its text makes sure of: a drawing has its arguments, the number of `H` and `V` is within its limit
+abbrev pub AsWritten : Act → Type 0
+AsWritten (glyph n) = Unit {0}
+AsWritten (index n) = Unit {0}
+AsWritten (to x n) = InLimit (shown n)
+AsWritten (by x n) = Unit {0}
+AsWritten (page n) = Unit {0}
+AsWritten (font n) = Unit {0}
+AsWritten (size n) = Unit {0}
+AsWritten (colour c ns) = Unit {0}
+AsWritten break = Unit {0}
+AsWritten space = Unit {0}
+AsWritten (draw s ns) = Arguments s ns
+AsWritten (device n) = Unit {0}
+AsWritten (resolution n h v) = Unit {0}
+AsWritten init = Unit {0}
+AsWritten (file n) = Unit {0}
+AsWritten (mount n m) = Unit {0}
+AsWritten (plain c ns) = Unit {0}
+AsWritten (raw t) = Unit {0}
+AsWritten stop = Unit {0}
+
+-- h and v are within the limit
+abbrev pub Inside : Env → Type 0
+Inside e = InLimit (shown (e .spot .h)) × InLimit (shown (e .spot .v))
+
+-- h or v would be beyond it behind the act
+abbrev pub Outside : Env → Act → Type 0
+Outside e a = Beyond (hBehind a (shown (e .spot .h))) ⊎ Beyond (vBehind a (shown (e .spot .v)))
+
+pub record Motions : Type 0 where
+  pub h : (e e′ : Env) (gs : List Glyph) (xs : List Item) (a : Act) → AsWritten a → act e a ≡ went e′ gs xs → shown (e′ .spot .h) ≡ hBehind a (shown (e .spot .h))
+  pub v : (e e′ : Env) (gs : List Glyph) (xs : List Item) (a : Act) → AsWritten a → act e a ≡ went e′ gs xs → shown (e′ .spot .v) ≡ vBehind a (shown (e .spot .v))
+
+-- Refusal 10: "h or v beyond 99,999,999 either way after a command, or after any glyph of a word (`Dp`: at its end only)". It is given
+-- exactly there, of an act that may stand where it stands; else 7 comes first.
+pub record Refusal10 : Type 0 where
+  pub given : (e : Env) (a : Act) → AsWritten a → Inside e → due e a ≡ true → Outside e a → act e a ≡ refused 10
+  pub only : (e : Env) (a : Act) → AsWritten a → Inside e → act e a ≡ refused 10 → Outside e a
+  -- so whatever is not refused ends within the limit
+  pub keeps : (e e′ : Env) (gs : List Glyph) (xs : List Item) (a : Act) → AsWritten a → Inside e → act e a ≡ went e′ gs xs → Inside e′
