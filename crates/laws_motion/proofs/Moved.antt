@@ -17,7 +17,7 @@ use Rattle.rules.specs.Drawing.{Way, pairwise, wayOf}
 use Rattle.rules.specs.State.{Env, Glyph, Item, get, fits, plus, plusAll, fitsAll, mayGo, mountedAt, isMounted, setGap, withFont, recorded, indexed, Step, refused, went, due, effect, act}
 use Rattle.rules.specs.Record.{shown}
 use Rattle.laws.proofs.Cases.{on, no, and-left, and-right}
-use Rattle.laws_motion.proofs.Steps.{After, if-after, font-after, behind}
+use Rattle.laws_motion.proofs.Steps.{isRefused, After, if-after, font-after, behind}
 use Rattle.laws_motion.proofs.Integers.{abs-diff, sum-is, place-is, Sums, none-sums, more-sums, one-sums}
 use Rattle.laws_motion.specs.Motions.{InLimit, Beyond, said, Numbers, oddPlaced, evenPlaced, sum, Even, Arguments, drawnAcross, drawnDown, hBehind, vBehind, AsWritten, Inside, Outside, Motions, Refusal10}
 
@@ -74,18 +74,18 @@ module _ (k x n : ℕ) (s : ℤ) (h : Sums k n s) where
   sum-abs : natAbs (shown x +ℤ s) ≡ (x + n - (k * origin + origin)) + (k * origin + origin - (x + n))
   sum-abs = ap natAbs (sum-is origin (k * origin) x n s h) ∙ abs-diff (x + n) (k * origin + origin)
 
-  fits-place : fitsAll k x n ≡ true → shown (plusAll k x n) ≡ shown x +ℤ s
+  pub fits-place : fitsAll k x n ≡ true → shown (plusAll k x n) ≡ shown x +ℤ s
   fits-place f =
       let l : k * origin < x + n = ltb-true (k * origin) (x + n) (and-left (ltb (k * origin) (x + n)) (ltb (x + n) (k * origin + 2 * origin)) f) in
       place-is origin (k * origin) x n s h (omega arith)
 
-  fits-in : fitsAll k x n ≡ true → InLimit (shown x +ℤ s)
+  pub fits-in : fitsAll k x n ≡ true → InLimit (shown x +ℤ s)
   fits-in f =
       let l : k * origin < x + n = ltb-true (k * origin) (x + n) (and-left (ltb (k * origin) (x + n)) (ltb (x + n) (k * origin + 2 * origin)) f) in
       let g : x + n < k * origin + 2 * origin = ltb-true (x + n) (k * origin + 2 * origin) (and-right (ltb (k * origin) (x + n)) (ltb (x + n) (k * origin + 2 * origin)) f) in
       rw sum-abs (omega arith)
 
-  fits-not : fitsAll k x n ≡ false → Beyond (shown x +ℤ s)
+  pub fits-not : fitsAll k x n ≡ false → Beyond (shown x +ℤ s)
   fits-not f =
       rw sum-abs
       (on (ltb (k * origin) (x + n))
@@ -145,7 +145,7 @@ drawing-goes grayFill ns h = (none-sums, none-sums)
 drawing-goes (colourFill c) ns h = (none-sums, none-sums)
 
 -- a single number is a sum of one
-by-sums : (n : ℕ) → Sums 1 n (shown n)
+pub by-sums : (n : ℕ) → Sums 1 n (shown n)
 by-sums n = ap pos (sym (add-zero n)) ∙ one-sums n
 
 -- ---- where each act ends
@@ -240,7 +240,7 @@ motions-hold = record {
 
 -- ---- refusal 10
 
-clash : (z : ℤ) → InLimit z → Beyond z → ⊥
+pub clash : (z : ℤ) → InLimit z → Beyond z → ⊥
 clash z h k = omega arith
 
 either : (z : ℤ) → InLimit z ⊎ Beyond z
@@ -367,17 +367,12 @@ only e a h k = let o : Only (Outside e a) (refused 10) = rw k at (act-only e a h
 
 -- ---- so every place is within the limit
 
-isRefused : Step → Bool
-isRefused (refused n) = true
-isRefused (went e gs xs) = false
-
 -- what was not refused was due
 was-due : (e e′ : Env) (gs : List Glyph) (xs : List Item) (a : Act) → act e a ≡ went e′ gs xs → due e a ≡ true
-unfolding act isRefused
+unfolding act
 was-due e e′ gs xs a k = on (due e a) (λ d. d) (λ d. no (sym (ap isRefused (rw d at k))))
 
 keeps : (e e′ : Env) (gs : List Glyph) (xs : List Item) (a : Act) → AsWritten a → Inside e → act e a ≡ went e′ gs xs → Inside e′
-unfolding isRefused
 keeps e e′ gs xs a h i k = (rw (motions-hold .h e e′ gs xs a h k) (go (hBehind a (shown (e .spot .h))) (λ b. inl b)), rw (motions-hold .v e e′ gs xs a h k) (go (vBehind a (shown (e .spot .v))) (λ b. inr b)))
   where
     inside : (z : ℤ) → (Beyond z → Outside e a) → InLimit z ⊎ Beyond z → InLimit z

@@ -200,3 +200,77 @@ pub record Refusal10 : Type 0 where
   pub only : (e : Env) (a : Act) → AsWritten a → Inside e → act e a ≡ refused 10 → Outside e a
   -- so whatever is not refused ends within the limit
   pub keeps : (e e′ : Env) (gs : List Glyph) (xs : List Item) (a : Act) → AsWritten a → Inside e → act e a ≡ went e′ gs xs → Inside e′
+
+-- ---- words and two digits
+
+-- "`t` word: each byte a glyph; h grows by its width after each", "`u` n word: as `t`, h grows by width + n after each": zs are the numbers
+-- by which h grows behind the bytes, f the current font position, n the word's number (`t`: 0), and the width of a byte counts as its
+-- advance: "The table used is that of the name now mounted at the current position."
+abbrev pub Grows : Widths → Env → ℕ → ℤ → List ℕ → List ℤ → Type 0
+Grows w e f n [] [] = Unit {0}
+Grows w e f n [] (z ∷ zs) = ⊥
+Grows w e f n (b ∷ bs) [] = ⊥
+Grows w e f n (b ∷ bs) (z ∷ zs) =
+    ((x : ℕ) × (widthOf (mountedAt f (e .mounts)) b (w .fonts) ≡ some x) × (z ≡ pos (advance x (e .size) (w .unitwidth) (e .quantum)) +ℤ n))
+    × Grows w e f n bs zs
+
+-- h at each glyph, the first at h; and h behind each
+abbrev pub hAt : ℤ → List ℤ → List ℤ
+hAt h [] = []
+hAt h (z ∷ zs) = h ∷ hAt (h +ℤ z) zs
+
+abbrev pub hAfter : ℤ → List ℤ → List ℤ
+hAfter h [] = []
+hAfter h (z ∷ zs) = (h +ℤ z) ∷ hAfter (h +ℤ z) zs
+
+abbrev pub SomeBeyond : List ℤ → Type 0
+SomeBeyond [] = ⊥
+SomeBeyond (z ∷ zs) = Beyond z ⊎ SomeBeyond zs
+
+abbrev pub glyphH : Glyph → ℤ
+glyphH g = shown (g .spot .h)
+
+abbrev pub glyphV : Glyph → ℤ
+glyphV g = shown (g .spot .v)
+
+-- what a word did: where its glyphs stand, and where it ends
+pub record WordMoved (w : Widths) (e : Env) (n : ℕ) (bs : List ℕ) (e′ : Env) (gs : List Glyph) : Type 0 where
+  pub position : ℕ
+  pub current : e .font ≡ some position
+  pub growth : List ℤ
+  pub grows : Grows w e position (shown n) bs growth
+  pub glyphs-h : map glyphH gs ≡ hAt (shown (e .spot .h)) growth
+  pub glyphs-v : map glyphV gs ≡ map (λ z. shown (e .spot .v)) growth
+  pub end-h : shown (e′ .spot .h) ≡ shown (e .spot .h) +ℤ sum growth
+  pub end-v : shown (e′ .spot .v) ≡ shown (e .spot .v)
+
+-- where a word is refused with 10, once 7, 8 and 9 are not against it: "after any glyph of a word"
+pub record WordRefused (w : Widths) (e : Env) (n : ℕ) (bs : List ℕ) : Type 0 where
+  pub position : ℕ
+  pub current : e .font ≡ some position
+  pub growth : List ℤ
+  pub grows : Grows w e position (shown n) bs growth
+  pub given : SomeBeyond (hAfter (shown (e .spot .h)) growth) → perform e (acts w e (word n bs)) ≡ refused 10
+  pub only : perform e (acts w e (word n bs)) ≡ refused 10 → SomeBeyond (hAfter (shown (e .spot .h)) growth)
+
+pub record Words : Type 0 where
+  -- the number of a `t` word
+  pub t-number : shown origin ≡ pos 0
+  pub moved-on : (w : Widths) (e e′ : Env) (gs : List Glyph) (xs : List Item) (n : ℕ) (bs : List ℕ) → perform e (acts w e (word n bs)) ≡ went e′ gs xs → WordMoved w e n bs e′ gs
+  pub refusal-10 : (w : Widths) (e : Env) (n : ℕ) (bs : List ℕ) (ys : List Act) → acts w e (word n bs) ≡ these ys → WordRefused w e n bs
+  -- "two digits, glyph byte: h grows by the two-digit number, then the glyph"
+  pub two-digits : (w : Widths) (e e′ : Env) (gs : List Glyph) (xs : List Item) (n b : ℕ) → perform e (acts w e (pair n b)) ≡ went e′ gs xs
+      → (map glyphH gs ≡ (shown (e .spot .h) +ℤ shown n) ∷ []) × (map glyphV gs ≡ shown (e .spot .v) ∷ []) × (shown (e′ .spot .h) ≡ shown (e .spot .h) +ℤ shown n) × (shown (e′ .spot .v) ≡ shown (e .spot .v))
+
+-- ---- every run
+
+-- The hypotheses above hold of every command of every stream: the command is as its text makes sure of, and the place before it is within
+-- the limit. cs are the commands before it.
+abbrev pub CmdWritten : Cmd → Type 0
+CmdWritten (just a) = AsWritten a
+CmdWritten (word n bs) = InLimit (shown n)
+CmdWritten (pair n b) = Unit {0}
+
+abbrev pub InEveryRun : Type 0
+InEveryRun = (w : Widths) (s : List ℕ) (cs ds : List Cmd) (c : Cmd) (e : Env) (gs : List Glyph) (xs : List Item)
+    → bare (commands 0 0 s) ≡ cs ++ c ∷ ds → steps w start cs ≡ went e gs xs → CmdWritten c × Inside e
