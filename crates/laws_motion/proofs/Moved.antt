@@ -68,29 +68,65 @@ numbers-hold = record {
     go true m h = rw h
     go false m h = rw h
 
+-- ---- the tests of refusal 10, as bounds
+
+both : (a b c d : ℕ) → (ltb a b && ltb c d) ≡ true → (a < b) × (c < d)
+both a b c d h = (ltb-true a b (and-left (ltb a b) (ltb c d) h), ltb-true c d (and-right (ltb a b) (ltb c d) h))
+
+one-not : (a b c d : ℕ) → (ltb a b && ltb c d) ≡ false → (b ≤ a) ⊎ (d ≤ c)
+one-not a b c d h =
+    on (ltb a b) (λ l. on (ltb c d) (λ g. no (sym (rw (l, g) at h))) (λ g. inr (ltb-false c d g))) (λ l. inl (ltb-false a b l))
+
+fits-says : (x n : ℕ) → fits x n ≡ true → (100_000_000 < x + n) × (x + n < 300_000_000)
+fits-says x n f = both origin (x + n) (x + n) (3 * origin) f
+
+fits-denies : (x n : ℕ) → fits x n ≡ false → (x + n ≤ 100_000_000) ⊎ (300_000_000 ≤ x + n)
+fits-denies x n f = one-not origin (x + n) (x + n) (3 * origin) f
+
+fitsAll-says : (k x n : ℕ) → fitsAll k x n ≡ true → (k * 100_000_000 < x + n) × (x + n < k * 100_000_000 + 200_000_000)
+fitsAll-says k x n f = both (k * origin) (x + n) (x + n) (k * origin + 2 * origin) f
+
+fitsAll-denies : (k x n : ℕ) → fitsAll k x n ≡ false → (x + n ≤ k * 100_000_000) ⊎ (k * 100_000_000 + 200_000_000 ≤ x + n)
+fitsAll-denies k x n f = one-not (k * origin) (x + n) (x + n) (k * origin + 2 * origin) f
+
 -- ---- a place and a sum of k numbers: where it is, and when it is within the limit
 
 module _ (k x n : ℕ) (s : ℤ) (h : Sums k n s) where
   sum-abs : natAbs (shown x +ℤ s) ≡ (x + n - (k * origin + origin)) + (k * origin + origin - (x + n))
   sum-abs = ap natAbs (sum-is origin (k * origin) x n s h) ∙ abs-diff (x + n) (k * origin + origin)
 
-  pub fits-place : fitsAll k x n ≡ true → shown (plusAll k x n) ≡ shown x +ℤ s
-  fits-place f =
-      let l : k * origin < x + n = ltb-true (k * origin) (x + n) (and-left (ltb (k * origin) (x + n)) (ltb (x + n) (k * origin + 2 * origin)) f) in
-      place-is origin (k * origin) x n s h (omega arith)
+  place-at : k * origin < x + n → shown (x + n - k * origin) ≡ shown x +ℤ s
+  place-at l = place-is origin (k * origin) x n s h (omega arith)
 
-  pub fits-in : fitsAll k x n ≡ true → InLimit (shown x +ℤ s)
-  fits-in f =
-      let l : k * origin < x + n = ltb-true (k * origin) (x + n) (and-left (ltb (k * origin) (x + n)) (ltb (x + n) (k * origin + 2 * origin)) f) in
-      let g : x + n < k * origin + 2 * origin = ltb-true (x + n) (k * origin + 2 * origin) (and-right (ltb (k * origin) (x + n)) (ltb (x + n) (k * origin + 2 * origin)) f) in
-      rw sum-abs (omega arith)
+  within-at : (k * origin < x + n) × (x + n < k * origin + 2 * origin) → InLimit (shown x +ℤ s)
+  within-at b = rw sum-abs (omega (arith, b .0, b .1))
 
-  pub fits-not : fitsAll k x n ≡ false → Beyond (shown x +ℤ s)
-  fits-not f =
-      rw sum-abs
-      (on (ltb (k * origin) (x + n))
-      (λ l. on (ltb (x + n) (k * origin + 2 * origin)) (λ g. no (sym (rw (l, g) at f))) (λ g. omega (arith, ltb-false (x + n) (k * origin + 2 * origin) g)))
-      (λ l. omega (arith, ltb-false (k * origin) (x + n) l)))
+  beyond-at : (x + n ≤ k * origin) ⊎ (k * origin + 2 * origin ≤ x + n) → Beyond (shown x +ℤ s)
+  beyond-at (inl l) = rw sum-abs (omega arith)
+  beyond-at (inr g) = rw sum-abs (omega arith)
+
+  all-place : fitsAll k x n ≡ true → shown (plusAll k x n) ≡ shown x +ℤ s
+  all-place f = place-at (fitsAll-says k x n f .0)
+
+  all-in : fitsAll k x n ≡ true → InLimit (shown x +ℤ s)
+  all-in f = within-at (fitsAll-says k x n f)
+
+  all-not : fitsAll k x n ≡ false → Beyond (shown x +ℤ s)
+  all-not f = beyond-at (fitsAll-denies k x n f)
+
+-- a single number
+module _ (x n : ℕ) where
+  by-sums : Sums 1 n (shown n)
+  by-sums = ap pos (sym (add-zero n)) ∙ one-sums n
+
+  pub by-place : fits x n ≡ true → shown (plus x n) ≡ shown x +ℤ shown n
+  by-place f = place-at 1 x n (shown n) by-sums (fits-says x n f .0)
+
+  pub by-in : fits x n ≡ true → InLimit (shown x +ℤ shown n)
+  by-in f = within-at 1 x n (shown n) by-sums (fits-says x n f)
+
+  pub by-not : fits x n ≡ false → Beyond (shown x +ℤ shown n)
+  by-not f = beyond-at 1 x n (shown n) by-sums (fits-denies x n f)
 
 -- ---- how far a drawing goes
 
@@ -144,12 +180,6 @@ drawing-goes thickness ns h = (none-sums, none-sums)
 drawing-goes grayFill ns h = (none-sums, none-sums)
 drawing-goes (colourFill c) ns h = (none-sums, none-sums)
 
--- a single number is a sum of one
-pub by-sums : (n : ℕ) → Sums 1 n (shown n)
-by-sums n = ap pos (sym (add-zero n)) ∙ one-sums n
-
--- ---- where each act ends
-
 -- h and v behind an act are those of the tables
 abbrev AtH : Env → Act → Step → Type 0
 AtH e a = After (λ d gs xs. shown (d .spot .h) ≡ hBehind a (shown (e .spot .h)))
@@ -158,12 +188,12 @@ abbrev AtV : Env → Act → Step → Type 0
 AtV e a = After (λ d gs xs. shown (d .spot .v) ≡ vBehind a (shown (e .spot .v)))
 
 by-h : (e : Env) (x : Axis) (n : ℕ) → AtH e (by x n) (effect e (by x n))
-by-h e across n = if-after _ (fits (e .spot .h) n) _ 10 (λ f. fits-place 1 (e .spot .h) n (shown n) (by-sums n) f)
+by-h e across n = if-after _ (fits (e .spot .h) n) _ 10 (λ f. by-place (e .spot .h) n f)
 by-h e down n = if-after _ (fits (e .spot .v) n) _ 10 (λ f. refl)
 
 by-v : (e : Env) (x : Axis) (n : ℕ) → AtV e (by x n) (effect e (by x n))
 by-v e across n = if-after _ (fits (e .spot .h) n) _ 10 (λ f. refl)
-by-v e down n = if-after _ (fits (e .spot .v) n) _ 10 (λ f. fits-place 1 (e .spot .v) n (shown n) (by-sums n) f)
+by-v e down n = if-after _ (fits (e .spot .v) n) _ 10 (λ f. by-place (e .spot .v) n f)
 
 to-h : (e : Env) (x : Axis) (n : ℕ) → AtH e (to x n) (effect e (to x n))
 to-h e across n = refl
@@ -181,10 +211,10 @@ may-v : (e : Env) (d : Way) → mayGo (e .spot) d ≡ true → fitsAll (d .terms
 may-v e d h = and-right (fitsAll (d .terms) (e .spot .h) (d .dh)) (fitsAll (d .terms) (e .spot .v) (d .dv)) h
 
 draw-h : (e : Env) (s : Shape) (ns : List ℕ) → Arguments s ns → AtH e (draw s ns) (effect e (draw s ns))
-draw-h e s ns h = if-after _ (mayGo (e .spot) (wayOf s ns)) _ 10 (λ f. fits-place (wayOf s ns .terms) (e .spot .h) (wayOf s ns .dh) _ (drawing-goes s ns h .0) (may-h e (wayOf s ns) f))
+draw-h e s ns h = if-after _ (mayGo (e .spot) (wayOf s ns)) _ 10 (λ f. all-place (wayOf s ns .terms) (e .spot .h) (wayOf s ns .dh) _ (drawing-goes s ns h .0) (may-h e (wayOf s ns) f))
 
 draw-v : (e : Env) (s : Shape) (ns : List ℕ) → Arguments s ns → AtV e (draw s ns) (effect e (draw s ns))
-draw-v e s ns h = if-after _ (mayGo (e .spot) (wayOf s ns)) _ 10 (λ f. fits-place (wayOf s ns .terms) (e .spot .v) (wayOf s ns .dv) _ (drawing-goes s ns h .1) (may-v e (wayOf s ns) f))
+draw-v e s ns h = if-after _ (mayGo (e .spot) (wayOf s ns)) _ 10 (λ f. all-place (wayOf s ns .terms) (e .spot .v) (wayOf s ns .dv) _ (drawing-goes s ns h .1) (may-v e (wayOf s ns) f))
 
 -- an act that stays where it is
 index-stays : (P : Env → List Glyph → List Item → Type 0) (e : Env) (n f : ℕ) → ((g : ℕ) (gs : List Glyph) → P (setGap e g) gs []) → After P (indexed e n f)
@@ -260,10 +290,10 @@ module _ (e : Env) (i : Inside e) where
   by-given : (x : Axis) (n : ℕ) → Outside e (by x n) → effect e (by x n) ≡ refused 10
   by-given across n o =
       on (fits (e .spot .h) n)
-      (λ f. absurd (neither (shown (e .spot .h) +ℤ shown n) (shown (e .spot .v)) (fits-in 1 (e .spot .h) n (shown n) (by-sums n) f) (i .1) o)) (λ f. rw f)
+      (λ f. absurd (neither (shown (e .spot .h) +ℤ shown n) (shown (e .spot .v)) (by-in (e .spot .h) n f) (i .1) o)) (λ f. rw f)
   by-given down n o =
       on (fits (e .spot .v) n)
-      (λ f. absurd (neither (shown (e .spot .h)) (shown (e .spot .v) +ℤ shown n) (i .0) (fits-in 1 (e .spot .v) n (shown n) (by-sums n) f) o)) (λ f. rw f)
+      (λ f. absurd (neither (shown (e .spot .h)) (shown (e .spot .v) +ℤ shown n) (i .0) (by-in (e .spot .v) n f) o)) (λ f. rw f)
 
   draw-given : (s : Shape) (ns : List ℕ) → Arguments s ns → Outside e (draw s ns) → effect e (draw s ns) ≡ refused 10
   draw-given s ns h o =
@@ -273,7 +303,7 @@ module _ (e : Env) (i : Inside e) where
       let g : Goes d y z = drawing-goes s ns h in
       on (mayGo (e .spot) (wayOf s ns))
       (λ f. absurd (neither (shown (e .spot .h) +ℤ y) (shown (e .spot .v) +ℤ z)
-          (fits-in (d .terms) (e .spot .h) (d .dh) y (g .0) (may-h e d f)) (fits-in (d .terms) (e .spot .v) (d .dv) z (g .1) (may-v e d f)) o))
+          (all-in (d .terms) (e .spot .h) (d .dh) y (g .0) (may-h e d f)) (all-in (d .terms) (e .spot .v) (d .dv) z (g .1) (may-v e d f)) o))
       (λ f. rw f)
 
   stays : Beyond (shown (e .spot .h)) ⊎ Beyond (shown (e .spot .v)) → ⊥
@@ -324,8 +354,8 @@ module _ (P : Type 0) where
   index-only e n f = on (ltb n origin) (λ k. rw k tt) (λ k. rw k tt)
 
 by-only : (e : Env) (x : Axis) (n : ℕ) → Only (Outside e (by x n)) (effect e (by x n))
-by-only e across n = if-only _ (fits (e .spot .h) n) _ 10 tt (λ f q. inl (fits-not 1 (e .spot .h) n (shown n) (by-sums n) f))
-by-only e down n = if-only _ (fits (e .spot .v) n) _ 10 tt (λ f q. inr (fits-not 1 (e .spot .v) n (shown n) (by-sums n) f))
+by-only e across n = if-only _ (fits (e .spot .h) n) _ 10 tt (λ f q. inl (by-not (e .spot .h) n f))
+by-only e down n = if-only _ (fits (e .spot .v) n) _ 10 tt (λ f q. inr (by-not (e .spot .v) n f))
 
 draw-only : (e : Env) (s : Shape) (ns : List ℕ) → Arguments s ns → Only (Outside e (draw s ns)) (effect e (draw s ns))
 draw-only e s ns h =
@@ -335,7 +365,7 @@ draw-only e s ns h =
     let g : Goes d y z = drawing-goes s ns h in
     if-only _ (mayGo (e .spot) (wayOf s ns)) _ 10 tt
     (λ f q. on (fitsAll (d .terms) (e .spot .h) (d .dh))
-    (λ k. inr (fits-not (d .terms) (e .spot .v) (d .dv) z (g .1) (rw k at f))) (λ k. inl (fits-not (d .terms) (e .spot .h) (d .dh) y (g .0) k)))
+    (λ k. inr (all-not (d .terms) (e .spot .v) (d .dv) z (g .1) (rw k at f))) (λ k. inl (all-not (d .terms) (e .spot .h) (d .dh) y (g .0) k)))
 
 effect-only : (e : Env) (a : Act) → AsWritten a → Only (Outside e a) (effect e a)
 effect-only e (glyph n) h = font-only _ e (recorded e n 0) (e .font) (λ f. tt)

@@ -14,7 +14,7 @@ use Rattle.rules.specs.State.{put, fits, plus, mountedAt, Env, setGap, setSpot,
 use Rattle.rules.specs.Record.{shown}
 use Rattle.laws.proofs.Cases.{on, no}
 use Rattle.laws_motion.proofs.Steps.{isRefused, After, if-after, font-after, act-after, after-map, then-after}
-use Rattle.laws_motion.proofs.Moved.{fits-place, fits-in, fits-not, by-sums, clash}
+use Rattle.laws_motion.proofs.Moved.{by-place, by-in, by-not, clash}
 use Rattle.laws_motion.specs.Motions.{sum, InLimit, Beyond, Grows, hAt, hAfter, SomeBeyond, glyphH, glyphV, WordMoved, WordRefused, Words}
 
 -- ---- what a word did, and where its glyphs stand
@@ -59,7 +59,7 @@ module _ (fs : List Font) (name : List ℕ) (far : ℕ → ℕ) where
       (act-after _ (setGap d 0) (by across (far x))
       (if-after _ (fits (d .spot .h) (far x)) (went (grown d (far x)) [] []) 10
       (λ k. after-map (λ e gs xs. Gone (grown d (far x)) bs e gs) (λ e gs xs. Gone d (b ∷ bs) e (g ∷ gs)) (run (grown d (far x)) ys)
-      (λ e gs xs r. one-more d b x bs g (grown d (far x)) e gs w s (fits-place 1 (d .spot .h) (far x) (shown (far x)) (by-sums (far x)) k) refl r) (f (grown d (far x))))))
+      (λ e gs xs r. one-more d b x bs g (grown d (far x)) e gs w s (by-place (d .spot .h) (far x) k) refl r) (f (grown d (far x))))))
 
   byte-gone : (d : Env) (b x : ℕ) (bs : List ℕ) (ys : List Act) → widthOf name b fs ≡ some x → ((d′ : Env) → After (λ e gs xs. Gone d′ bs e gs) (run d′ ys))
       → After (λ e gs xs. Gone d (b ∷ bs) e gs) (run d (glyph (b ∷ []) ∷ by across (far x) ∷ ys))
@@ -110,8 +110,8 @@ module _ (d : Env) (b m : ℕ) (ys : List Act) (zs : List ℤ) (r : Ready d) (f 
   -- where h fits, the rest decides
   on-exactly : fits (d .spot .h) m ≡ true → Exactly (glyph (b ∷ []) ∷ by across m ∷ ys) (shown m ∷ zs) d
   on-exactly k =
-      let e : shown (plus (d .spot .h) m) ≡ shown (d .spot .h) +ℤ shown m = fits-place 1 (d .spot .h) m (shown m) (by-sums m) k in
-      let l : InLimit (shown (d .spot .h) +ℤ shown m) = fits-in 1 (d .spot .h) m (shown m) (by-sums m) k in
+      let e : shown (plus (d .spot .h) m) ≡ shown (d .spot .h) +ℤ shown m = by-place (d .spot .h) m k in
+      let l : InLimit (shown (d .spot .h) +ℤ shown m) = by-in (d .spot .h) m k in
       (
         ⊎-elim (λ o. absurd (clash (shown (d .spot .h) +ℤ shown m) l o)) (λ o. run-fits d b m ys r k ∙ rw (f .0 (rw e o))),
         λ q. inr (rw e at (f .1 (before-ten _ _ _ (before-ten _ _ _ (sym (run-fits d b m ys r k) ∙ q))))),
@@ -119,7 +119,7 @@ module _ (d : Env) (b m : ℕ) (ys : List Act) (zs : List ℤ) (r : Ready d) (f 
 
   -- else it is refused
   off-exactly : fits (d .spot .h) m ≡ false → Exactly (glyph (b ∷ []) ∷ by across m ∷ ys) (shown m ∷ zs) d
-  off-exactly k = ((λ o. run-not d b m ys r k), λ q. inl (fits-not 1 (d .spot .h) m (shown m) (by-sums m) k))
+  off-exactly k = ((λ o. run-not d b m ys r k), λ q. inl (by-not (d .spot .h) m k))
 
   more-exactly : Exactly (glyph (b ∷ []) ∷ by across m ∷ ys) (shown m ∷ zs) d
   more-exactly = on (fits (d .spot .h) m) on-exactly off-exactly
@@ -217,7 +217,7 @@ pair-moved w e n b =
     (λ f k. then-after _ (act e (by across n)) (λ d. run d (glyph (b ∷ []) ∷ []))
     (act-after _ e (by across n)
     (if-after _ (fits (e .spot .h) n) (went (moved-by e n) [] []) 10
-    (λ j. let z : shown (plus (e .spot .h) n) ≡ shown (e .spot .h) +ℤ shown n = fits-place 1 (e .spot .h) n (shown n) (by-sums n) j in
+    (λ j. let z : shown (plus (e .spot .h) n) ≡ shown (e .spot .h) +ℤ shown n = by-place (e .spot .h) n j in
     then-after _ (act (moved-by e n) (glyph (b ∷ []))) (λ d. run d [])
     (act-after _ (moved-by e n) (glyph (b ∷ [])) (font-after _ (moved-by e n) (recorded (moved-by e n) (b ∷ []) 0) (e .font) refl (λ p q. (ap (λ (y : ℤ). y ∷ []) z, refl, z, refl))))))))
 
