@@ -2,16 +2,16 @@
 use Prim.Native.Nat.{ℕ, _-_}
 use Prim.Native.Char.{code}
 use native.Mathlib.Numerals.{add-one}
-use mathlib.Core.Bool.{Bool, true, false}
+use mathlib.Core.Bool.{true, false}
 use mathlib.Core.List.{List, [], _∷_}
-use mathlib.Core.Option.{Option, none, some}
+use mathlib.Core.Option.{some}
 use mathlib.Core.Path.{_≡_, refl, sym, ap, _∙_}
 use lib.Dec.{ltb}
 use lib.IntN.{ℤ, pos, negsuc, natAbs, pos-ne-negsuc}
-use Rattle.rules.specs.Bytes.{if_then_else_, origin, bytes}
-use Rattle.rules.specs.Act.{Axis, across, down, Scheme, cmy, default, gray, cmyk, rgb, Shape, line, arc, circle, solidCircle, ellipse, solidEllipse, polygon, solidPolygon, spline, thickness, grayFill, colourFill, Plain, pause, trailer, height, slant, underline, Act, glyph, index, to, by, page, font, size, colour, break, space, draw, device, resolution, init, file, mount, plain, raw, stop}
+use Rattle.rules.specs.Bytes.{origin, bytes}
+use Rattle.rules.specs.Act.{Scheme, cmy, default, gray, cmyk, rgb, Shape, line, arc, circle, solidCircle, ellipse, solidEllipse, polygon, solidPolygon, spline, thickness, grayFill, colourFill, Plain, pause, trailer, height, slant, underline, Act, glyph, index, to, by, page, font, size, colour, break, space, draw, device, resolution, init, file, mount, plain, raw, stop}
 use Rattle.rules.specs.Drawing.{wayOf}
-use Rattle.rules.specs.State.{Paint, Env, Glyph, Item, get, put, fits, plus, mayGo, spotAfter, filled, mountedAt, isMounted, setSpot, setFont, setGap, setFillPaint, itemAt, item, newPage, withFont, recorded, indexed, Step, refused, went, due, effect, act}
+use Rattle.rules.specs.State.{Paint, Env, get, fits, mayGo, mountedAt, isMounted, itemAt, item, newPage, recorded, indexed, effect}
 use Rattle.rules.specs.Record.{shown, lettersOf, schemeLetter, colourOf}
 use Rattle.laws.proofs.Cases.{on, no}
 use Rattle.laws_motion.proofs.Steps.{After, if-after, font-after, behind}

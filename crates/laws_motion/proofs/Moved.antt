@@ -8,13 +8,13 @@ use mathlib.Core.Logic.{_⊎_, inl, inr}
 use mathlib.Core.Option.{Option, none, some}
 use mathlib.Core.Path.{_≡_, refl, sym, ap, _∙_}
 use lib.Dec.{leb, ltb}
-use lib.IntN.{ℤ, pos, negsuc, negℤ, natAbs, _+ℤ_, _-ℤ_}
+use lib.IntN.{ℤ, pos, negsuc, natAbs, _+ℤ_}
 use lib.ListN.{length}
 use borrow.Author.Tests.{leb-true, leb-false, le-leb, lt-ltb, le-ltb, ltb-true, ltb-false}
-use Rattle.rules.specs.Bytes.{if_then_else_, origin, most, Num, moved, near}
+use Rattle.rules.specs.Bytes.{if_then_else_, origin, most, moved, near}
 use Rattle.rules.specs.Act.{Axis, across, down, Shape, line, arc, circle, solidCircle, ellipse, solidEllipse, polygon, solidPolygon, spline, thickness, grayFill, colourFill, Act, glyph, index, to, by, page, font, size, colour, break, space, draw, device, resolution, init, file, mount, plain, raw, stop}
 use Rattle.rules.specs.Drawing.{Way, pairwise, wayOf}
-use Rattle.rules.specs.State.{Env, Glyph, Item, get, fits, plus, plusAll, fitsAll, mayGo, mountedAt, isMounted, setGap, withFont, recorded, indexed, Step, refused, went, due, effect, act}
+use Rattle.rules.specs.State.{Env, Glyph, Item, fits, plus, plusAll, fitsAll, mayGo, mountedAt, isMounted, setGap, withFont, recorded, indexed, Step, refused, went, due, effect, act}
 use Rattle.rules.specs.Record.{shown}
 use Rattle.laws.proofs.Cases.{on, no, and-left, and-right}
 use Rattle.laws_motion.proofs.Steps.{isRefused, After, if-after, font-after, behind}

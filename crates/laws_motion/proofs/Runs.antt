@@ -1,19 +1,19 @@
 -- In every run the commands are as their texts make sure of, and every place is within the limit.
-use Prim.Native.Nat.{ℕ, _+_}
+use Prim.Native.Nat.{ℕ}
 use native.Mathlib.Omega.{arith}
-use mathlib.Core.Bool.{Bool, true, false, _&&_}
+use mathlib.Core.Bool.{true}
 use mathlib.Core.List.{List, [], _∷_, _++_}
 use mathlib.Core.Option.{Option, none, some}
-use mathlib.Core.Path.{_≡_, refl, sym, _∙_}
+use mathlib.Core.Path.{_≡_, refl}
 use lib.Dec.{ltb}
 use Rattle.rules.specs.Bytes.{near}
-use Rattle.rules.specs.Act.{Axis, across, Shape, line, arc, circle, solidCircle, ellipse, solidEllipse, polygon, solidPolygon, spline, thickness, grayFill, colourFill, Act, glyph, index, to, by, page, font, size, colour, break, space, draw, device, resolution, init, file, mount, plain, raw, stop, Cmd, just, word, pair}
+use Rattle.rules.specs.Act.{across, Shape, line, arc, circle, solidCircle, ellipse, solidEllipse, polygon, solidPolygon, spline, thickness, grayFill, colourFill, Act, glyph, index, to, by, page, font, size, colour, break, space, draw, device, resolution, init, file, mount, plain, raw, stop, Cmd, just, word, pair}
 use Rattle.rules.specs.Drawing.{formOf, isPaired}
 use Rattle.rules.specs.Scan.{Cmds, done, wrong, next, commands, bare}
 use Rattle.rules.specs.Widths.{Widths, Font, widthOf}
-use Rattle.rules.specs.State.{Env, start, Glyph, Item, Step, refused, went, onPage, act, run, Acts, noActs, these, ready, byteActs, wordActs, wordIn, acts, perform, steps}
+use Rattle.rules.specs.State.{Env, start, Step, refused, went, onPage, act, run, Acts, noActs, these, ready, byteActs, wordActs, wordIn, acts, perform, steps}
 use Rattle.laws.proofs.Cases.{on, and-left, no}
-use Rattle.laws.proofs.Good.{allTrue, Count, Good, GoodCmd, AllCmds}
+use Rattle.laws.proofs.Good.{Count, Good, GoodCmd, AllCmds}
 use Rattle.laws_scan.proofs.Fair.{commands-good}
 use Rattle.laws_motion.proofs.Steps.{After, after-map, then-after}
 use Rattle.laws_motion.proofs.Moved.{numbers-hold, refusal-10}

@@ -1,21 +1,21 @@
 -- Words and two digits over the integers.
-use Prim.Native.Nat.{ℕ, _+_, _<_}
-use mathlib.Core.Bool.{Bool, true, false, _&&_}
-use mathlib.Core.List.{List, [], _∷_, _++_, map}
-use mathlib.Core.Logic.{_⊎_, inl, inr, ⊎-elim}
+use Prim.Native.Nat.{ℕ, _+_}
+use mathlib.Core.Bool.{Bool, true, false}
+use mathlib.Core.List.{List, [], _∷_, map}
+use mathlib.Core.Logic.{inl, inr, ⊎-elim}
 use mathlib.Core.Option.{Option, none, some}
 use mathlib.Core.Path.{_≡_, refl, sym, ap, _∙_}
-use lib.Dec.{ltb, eqb}
+use lib.Dec.{ltb}
 use lib.IntN.{ℤ, pos, negℤ, _+ℤ_, +ℤ-assoc, +ℤ-idr}
-use Rattle.rules.specs.Bytes.{if_then_else_, origin}
+use Rattle.rules.specs.Bytes.{origin}
 use Rattle.rules.specs.Act.{across, Act, glyph, by, word, pair}
 use Rattle.rules.specs.Widths.{Widths, Font, widthOf, advance}
-use Rattle.rules.specs.State.{put, fits, plus, mountedAt, Env, setGap, setSpot, Glyph, Item, glyphOf, Step, refused, went, before, andThen, onPage, effect, act, run, recorded, Acts, noActs, these, ready, byteActs, wordActs, wordIn, acts, perform}
+use Rattle.rules.specs.State.{put, fits, plus, mountedAt, Env, setGap, setSpot, Glyph, Item, glyphOf, Step, refused, went, before, onPage, act, run, recorded, Acts, noActs, these, ready, byteActs, wordActs, wordIn, acts, perform}
 use Rattle.rules.specs.Record.{shown}
 use Rattle.laws.proofs.Cases.{on, no}
 use Rattle.laws_motion.proofs.Steps.{isRefused, After, if-after, font-after, act-after, after-map, then-after}
 use Rattle.laws_motion.proofs.Moved.{by-place, by-in, by-not, clash}
-use Rattle.laws_motion.specs.Motions.{sum, InLimit, Beyond, Grows, hAt, hAfter, SomeBeyond, glyphH, glyphV, WordMoved, WordRefused, Words}
+use Rattle.laws_motion.specs.Motions.{sum, InLimit, Grows, hAt, hAfter, SomeBeyond, glyphH, glyphV, WordMoved, WordRefused, Words}
 
 -- ---- what a word did, and where its glyphs stand
 

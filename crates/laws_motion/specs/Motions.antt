@@ -2,15 +2,15 @@
 -- command has, each as the integer that its text says, so that nobody has to believe the numbers that are moved up. `hBehind` and
 -- `vBehind` are 01's tables again, apart from those of the rules (`wayOf`, `plus`, `plusAll`). Proofs: `proofs/Moved.antt`.
 use Prim.Native.Nat.{ℕ, _-_, _<_, _≤_}
-use mathlib.Core.Bool.{Bool, true, false}
+use mathlib.Core.Bool.{true}
 use mathlib.Core.List.{List, [], _∷_, _++_, map}
 use mathlib.Core.Logic.{_⊎_}
-use mathlib.Core.Option.{Option, none, some}
+use mathlib.Core.Option.{some}
 use mathlib.Core.Path.{_≡_}
 use lib.IntN.{ℤ, pos, negℤ, natAbs, _+ℤ_}
 use lib.ListN.{length, getD}
 use Rattle.rules.specs.Bytes.{if_then_else_, origin, Num, moved, near}
-use Rattle.rules.specs.Act.{Axis, across, down, Shape, line, arc, circle, solidCircle, ellipse, solidEllipse, polygon, solidPolygon, spline, thickness, grayFill, colourFill, Act, glyph, index, to, by, page, font, size, colour, break, space, draw, device, resolution, init, file, mount, plain, raw, stop, Cmd, just, word, pair}
+use Rattle.rules.specs.Act.{across, down, Shape, line, arc, circle, solidCircle, ellipse, solidEllipse, polygon, solidPolygon, spline, thickness, grayFill, colourFill, Act, glyph, index, to, by, page, font, size, colour, break, space, draw, device, resolution, init, file, mount, plain, raw, stop, Cmd, just, word, pair}
 use Rattle.rules.specs.Scan.{commands, bare}
 use Rattle.rules.specs.Widths.{Widths, widthOf, advance}
 use Rattle.rules.specs.State.{Env, start, Glyph, Item, mountedAt, due, refused, went, act, these, acts, perform, steps}
