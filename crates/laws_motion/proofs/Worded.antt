@@ -1,5 +1,7 @@
 -- Words and two digits over the integers.
-use Prim.Native.Nat.{ℕ, _+_}
+use Prim.Native.Nat.{ℕ, _+_, _*_, _/_, _≤_, _<_}
+use native.Mathlib.Omega.{arith}
+use native.Mathlib.Nat.{mul-le-mul, mul-div-le, lt-mul-div-succ, le-div-iff-mul-le, div-lt-iff-lt-mul}
 use mathlib.Core.Bool.{Bool, true, false}
 use mathlib.Core.List.{List, [], _∷_, map}
 use mathlib.Core.Logic.{inl, inr, ⊎-elim}
@@ -15,7 +17,53 @@ use Rattle.rules.specs.Record.{shown}
 use Rattle.laws.proofs.Cases.{on, no}
 use Rattle.laws_motion.proofs.Steps.{isRefused, After, if-after, font-after, act-after, after-map, then-after}
 use Rattle.laws_motion.proofs.Moved.{by-place, by-in, by-not, clash}
-use Rattle.laws_motion.specs.Motions.{sum, InLimit, Grows, hAt, hAfter, SomeBeyond, glyphH, glyphV, WordMoved, WordRefused, Words}
+use Rattle.laws_motion.specs.Motions.{sum, InLimit, Nearest, Advances, Grows, hAt, hAfter, SomeBeyond, glyphH, glyphV, WordMoved, WordRefused, Words}
+
+-- ---- the advance
+
+-- q is the quotient by 2 * k * m
+module _ (w s k m q : ℕ) where
+  below : 2 * k * m * q ≤ 2 * w * s + k * m → 2 * k * (m * q) ≤ 2 * w * s + k * m
+  below h = omega arith
+
+  above : 2 * w * s + k * m < 2 * k * m * (q + 1) → 2 * w * s < 2 * k * (m * q) + k * m
+  above h = omega arith
+
+  from-below : 2 * k * (m * q) ≤ 2 * w * s + k * m → q * (2 * k * m) ≤ 2 * w * s + k * m
+  from-below h = omega arith
+
+  from-above : 2 * w * s < 2 * k * (m * q) + k * m → 2 * w * s + k * m < (q + 1) * (2 * k * m)
+  from-above h = omega arith
+
+some-product : (k m : ℕ) → 1 ≤ k → 1 ≤ m → 0 < 2 * k * m
+some-product k m h l = omega (arith, mul-le-mul h l)
+
+nearest : (w s k m : ℕ) → 1 ≤ k → 1 ≤ m → Nearest w s k m (advance w s k m)
+nearest w s k m h l =
+    let n : ℕ = 2 * w * s + k * m in
+    let d : ℕ = 2 * k * m in
+    record {
+      factor = _;
+      multiple = refl;
+      not-below = above w s k m (n / d) (lt-mul-div-succ n (some-product k m h l));
+      not-above = below w s k m (n / d) (mul-div-le n d);
+    }
+
+no-other : (w s k m a : ℕ) → 1 ≤ k → 1 ≤ m → Nearest w s k m a → a ≡ advance w s k m
+no-other w s k m a h l x =
+    let n : ℕ = 2 * w * s + k * m in
+    let d : ℕ = 2 * k * m in
+    let p : ℕ = x .factor in
+    let z : 0 < d = some-product k m h l in
+    let f : p ≤ n / d = le-div-iff-mul-le z .1 (from-below w s k m p (rw (x .multiple) at (x .not-above))) in
+    let g : n / d < p + 1 = div-lt-iff-lt-mul z .1 (from-above w s k m p (rw (x .multiple) at (x .not-below))) in
+    x .multiple ∙ ap (λ (y : ℕ). m * y) (same-factor p (n / d) f g)
+  where
+    same-factor : (p q : ℕ) → p ≤ q → q < p + 1 → p ≡ q
+    same-factor p q f g = omega arith
+
+pub advances-hold : Advances
+advances-hold = record { nearest = nearest; no-other = no-other }
 
 -- ---- what a word did, and where its glyphs stand
 

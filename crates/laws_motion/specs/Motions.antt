@@ -1,7 +1,7 @@
 -- Document 01, motions over the integers: of every command that moves, the place afterwards is the place before plus the numbers that the
 -- command has, each as the integer that its text says, so that nobody has to believe the numbers that are moved up. `hBehind` and
--- `vBehind` are 01's tables again, apart from those of the rules (`wayOf`, `plus`, `plusAll`). Proofs: `proofs/Moved.antt`.
-use Prim.Native.Nat.{ℕ, _-_, _<_, _≤_}
+-- `vBehind` are 01's tables again, apart from those of the rules (`wayOf`, `plus`, `plusAll`). Proofs: `proofs/`, `Moved`, `Worded`, `Runs`.
+use Prim.Native.Nat.{ℕ, _+_, _*_, _-_, _<_, _≤_}
 use mathlib.Core.Bool.{true}
 use mathlib.Core.List.{List, [], _∷_, _++_, map}
 use mathlib.Core.Logic.{_⊎_}
@@ -200,6 +200,20 @@ pub record Refusal10 : Type 0 where
   pub only : (e : Env) (a : Act) → AsWritten a → Inside e → act e a ≡ refused 10 → Outside e a
   -- so whatever is not refused ends within the limit
   pub keeps : (e e′ : Env) (gs : List Glyph) (xs : List Item) (a : Act) → AsWritten a → Inside e → act e a ≡ went e′ gs xs → Inside e′
+
+-- ---- "Widths": the advance
+
+-- "The advance for width w, size s, unitwidth k and `x r` second number m is the multiple of m nearest to w*s/k, a tie going up (house)":
+-- a is less than m/2 below w*s/k and at most m/2 above it, here times 2*k. (k is "1..100000", m "at least 1".)
+pub record Nearest (w s k m a : ℕ) : Type 0 where
+  pub factor : ℕ
+  pub multiple : a ≡ m * factor
+  pub not-below : 2 * w * s < 2 * k * a + k * m
+  pub not-above : 2 * k * a ≤ 2 * w * s + k * m
+
+pub record Advances : Type 0 where
+  pub nearest : (w s k m : ℕ) → 1 ≤ k → 1 ≤ m → Nearest w s k m (advance w s k m)
+  pub no-other : (w s k m a : ℕ) → 1 ≤ k → 1 ≤ m → Nearest w s k m a → a ≡ advance w s k m
 
 -- ---- words and two digits
 
