@@ -15,7 +15,7 @@ use Rattle.rules.specs.State.{Paint, Env, get, fits, mayGo, mountedAt, isMounte
 use Rattle.rules.specs.Record.{shown, lettersOf, schemeLetter, colourOf}
 use Rattle.laws.proofs.Cases.{on, no}
 use Rattle.laws_motion.proofs.Steps.{After, if-after, font-after, behind}
-use Rattle.laws_motion.specs.Records.{OneRecord, mayRecord, Recorded, shapeLetters, plainLetters, letters, three, placeIn, OneEntry, isSome, Entered, NewPage, isPage, Settings, schemeChar, ColourHolds, Ends}
+use Rattle.laws_motion.specs.Records.{OneRecord, mayRecord, Recorded, drawingLetters, plainLetters, letters, three, placeIn, OneEntry, isSome, Entered, NewPage, isPage, Settings, schemeChar, ColourHolds, AnswerHolds}
 
 -- ---- the sign of a number
 
@@ -146,7 +146,7 @@ one-entry e (plain c ns) h = control-entry e (plain c ns) (plain-letters c ns) (
 one-entry e (raw t) h = text-entry e t
 one-entry e stop h = control-entry e stop refl (λ z. refl)
 
-some-shape : (s : Shape) → isSome (bytes (shapeLetters s)) ≡ true
+some-shape : (s : Shape) → isSome (bytes (drawingLetters s)) ≡ true
 some-shape line = refl
 some-shape arc = refl
 some-shape circle = refl
@@ -250,5 +250,5 @@ colour-holds c = record { scheme = go (c .scheme); components = refl }
     go cmyk = refl
     go rgb = refl
 
-pub ends-hold : Ends
+pub ends-hold : AnswerHolds
 ends-hold rs xs e = record { numbers = refl; glyph-colour = colour-holds (e .glyphPaint); fill-colour = colour-holds (e .fillPaint) }

@@ -19,7 +19,7 @@ use Rattle.rules.specs.Record.{shown}
 use Rattle.laws.proofs.Cases.{on, no, and-left, and-right}
 use Rattle.laws_motion.proofs.Steps.{isRefused, After, if-after, font-after, behind}
 use Rattle.laws_motion.proofs.Integers.{abs-diff, sum-is, place-is, Sums, none-sums, more-sums, one-sums}
-use Rattle.laws_motion.specs.Motions.{InLimit, Beyond, said, Numbers, oddPlaced, evenPlaced, sum, Even, Arguments, drawnAcross, drawnDown, hBehind, vBehind, AsWritten, Inside, Outside, Motions, Refusal10}
+use Rattle.laws_motion.specs.Motions.{InLimit, Beyond, textSays, NumberTexts, oddPlaced, evenPlaced, sum, EvenCount, Arguments, drawnAcross, drawnDown, hBehind, vBehind, AsWritten, Inside, Outside, Motions, Refusal10}
 
 -- ---- numbers
 
@@ -29,7 +29,7 @@ shown-above m = rw (le-ltb (origin + m) origin (omega arith)) (ap pos (omega ari
 shown-below : (m : ℕ) → m < origin → shown (origin - suc m) ≡ negsuc m
 shown-below m h = rw (lt-ltb (origin - suc m) origin (omega arith)) (ap negsuc (omega arith))
 
-stands-for : (b : Bool) (m : ℕ) → m ≤ 99_999_999 → shown (moved (record { neg = b; mag = m })) ≡ said (record { neg = b; mag = m })
+stands-for : (b : Bool) (m : ℕ) → m ≤ 99_999_999 → shown (moved (record { neg = b; mag = m })) ≡ textSays (record { neg = b; mag = m })
 stands-for false m h = shown-above m
 stands-for true zero h = refl
 stands-for true (suc m) h = shown-below m (omega arith)
@@ -54,7 +54,7 @@ near-is n h = let b : (1 ≤ n) × (n ≤ 199_999_999) = near-bounds n h in rw (
 near-of : (n : ℕ) → InLimit (shown n) → near n ≡ true
 near-of n h = let g : (n - origin) + (origin - n) ≤ 99_999_999 = rw (abs-diff n origin) at h in bounds-near n (omega arith) (omega arith)
 
-pub numbers-hold : Numbers
+pub numbers-hold : NumberTexts
 numbers-hold = record {
   stands-for = λ n h. stands-for (n .neg) (n .mag) h;
   minus-0 = λ n h. go (n .neg) (n .mag) h;
@@ -134,7 +134,7 @@ module _ (x n : ℕ) where
 abbrev Goes : Way → ℤ → ℤ → Type 0
 Goes d x y = Sums (d .terms) (d .dh) x × Sums (d .terms) (d .dv) y
 
-pairs-go : (ns : List ℕ) → Even ns → Goes (pairwise ns) (sum (oddPlaced (map shown ns))) (sum (evenPlaced (map shown ns)))
+pairs-go : (ns : List ℕ) → EvenCount ns → Goes (pairwise ns) (sum (oddPlaced (map shown ns))) (sum (evenPlaced (map shown ns)))
 pairs-go [] h = (none-sums, none-sums)
 pairs-go (x ∷ []) h = absurd h
 pairs-go (x ∷ y ∷ r) h =

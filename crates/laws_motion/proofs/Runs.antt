@@ -17,11 +17,11 @@ use Rattle.laws.proofs.Good.{Count, Good, GoodCmd, AllCmds}
 use Rattle.laws_scan.proofs.Fair.{commands-good}
 use Rattle.laws_motion.proofs.Steps.{After, after-map, then-after}
 use Rattle.laws_motion.proofs.Moved.{numbers-hold, refusal-10}
-use Rattle.laws_motion.specs.Motions.{Even, Arguments, AsWritten, Inside, CmdWritten, InEveryRun}
+use Rattle.laws_motion.specs.Motions.{EvenCount, Arguments, AsWritten, Inside, CmdWritten, InEveryRun}
 
 -- ---- what is scanned is as its text makes sure of
 
-paired-even : (ns : List ℕ) → isPaired ns ≡ true → Even ns
+paired-even : (ns : List ℕ) → isPaired ns ≡ true → EvenCount ns
 paired-even [] h = tt
 paired-even (x ∷ []) h = no h
 paired-even (x ∷ y ∷ []) h = tt

@@ -1,6 +1,6 @@
 -- Document 01, motions over the integers: of every command that moves, the place afterwards is the place before plus the numbers that the
 -- command has, each as the integer that its text says, so that nobody has to believe the numbers that are moved up. `hBehind` and
--- `vBehind` are 01's tables again, apart from those of the rules (`wayOf`, `plus`, `plusAll`). Proofs: `proofs/`, `Moved`, `Worded`, `Runs`.
+-- `vBehind` are 01's tables again, apart from those of the rules (`wayOf`, `plus`, `plusAll`). Proofs: `Moved`, `Worded` and `Runs`.
 use Prim.Native.Nat.{ℕ, _+_, _*_, _-_, _<_, _≤_}
 use mathlib.Core.Bool.{true}
 use mathlib.Core.List.{List, [], _∷_, _++_, map}
@@ -25,12 +25,12 @@ abbrev pub Beyond : ℤ → Type 0
 Beyond z = 99_999_999 < natAbs z
 
 -- what a sign and a magnitude say
-abbrev pub said : Num → ℤ
-said n = if n .neg then negℤ (pos (n .mag)) else pos (n .mag)
+abbrev pub textSays : Num → ℤ
+textSays n = if n .neg then negℤ (pos (n .mag)) else pos (n .mag)
 
-pub record Numbers : Type 0 where
+pub record NumberTexts : Type 0 where
   -- a number within its limit stands for what its text says
-  pub stands-for : (n : Num) → n .mag ≤ 99_999_999 → shown (moved n) ≡ said n
+  pub stands-for : (n : Num) → n .mag ≤ 99_999_999 → shown (moved n) ≡ textSays n
   -- "`-0` is 0."
   pub minus-0 : (n : Num) → n .mag ≡ 0 → shown (moved n) ≡ pos 0
   -- the rules' test is the limit, of a text and of any number that is moved up
@@ -59,10 +59,10 @@ abbrev pub sum : List ℤ → ℤ
 sum [] = pos 0
 sum (z ∷ zs) = z +ℤ sum zs
 
-abbrev pub Even : List ℕ → Type 0
-Even [] = Unit {0}
-Even (x ∷ []) = ⊥
-Even (x ∷ y ∷ r) = Even r
+abbrev pub EvenCount : List ℕ → Type 0
+EvenCount [] = Unit {0}
+EvenCount (x ∷ []) = ⊥
+EvenCount (x ∷ y ∷ r) = EvenCount r
 
 -- "arguments"; a dummy is none of them
 abbrev pub Arguments : Shape → List ℕ → Type 0
@@ -72,9 +72,9 @@ Arguments circle ns = length ns ≡ 1  -- "d, optional dummy"
 Arguments solidCircle ns = length ns ≡ 1
 Arguments ellipse ns = length ns ≡ 2  -- "h v"
 Arguments solidEllipse ns = length ns ≡ 2
-Arguments polygon ns = Even ns  -- "2 to 64 integers, an even number"
-Arguments solidPolygon ns = Even ns
-Arguments spline ns = Even ns
+Arguments polygon ns = EvenCount ns  -- "2 to 64 integers, an even number"
+Arguments solidPolygon ns = EvenCount ns
+Arguments spline ns = EvenCount ns
 Arguments thickness ns = Unit {0}
 Arguments grayFill ns = Unit {0}
 Arguments (colourFill c) ns = Unit {0}

@@ -79,23 +79,23 @@ pub record Recorded : Type 0 where
 -- ---- an entry
 
 -- "its letters (of an `x` word only the first)", as they are written; an act without an entry has none
-abbrev pub shapeLetters : Shape → String
-shapeLetters line = "Dl"
-shapeLetters arc = "Da"
-shapeLetters circle = "Dc"
-shapeLetters solidCircle = "DC"
-shapeLetters ellipse = "De"
-shapeLetters solidEllipse = "DE"
-shapeLetters polygon = "Dp"
-shapeLetters solidPolygon = "DP"
-shapeLetters spline = "D~"
-shapeLetters thickness = "Dt"
-shapeLetters grayFill = "Df"
-shapeLetters (colourFill cmy) = "DFc"
-shapeLetters (colourFill default) = "DFd"
-shapeLetters (colourFill gray) = "DFg"
-shapeLetters (colourFill cmyk) = "DFk"
-shapeLetters (colourFill rgb) = "DFr"
+abbrev pub drawingLetters : Shape → String
+drawingLetters line = "Dl"
+drawingLetters arc = "Da"
+drawingLetters circle = "Dc"
+drawingLetters solidCircle = "DC"
+drawingLetters ellipse = "De"
+drawingLetters solidEllipse = "DE"
+drawingLetters polygon = "Dp"
+drawingLetters solidPolygon = "DP"
+drawingLetters spline = "D~"
+drawingLetters thickness = "Dt"
+drawingLetters grayFill = "Df"
+drawingLetters (colourFill cmy) = "DFc"
+drawingLetters (colourFill default) = "DFd"
+drawingLetters (colourFill gray) = "DFg"
+drawingLetters (colourFill cmyk) = "DFk"
+drawingLetters (colourFill rgb) = "DFr"
 
 abbrev pub plainLetters : Plain → String
 plainLetters pause = "xp"
@@ -115,7 +115,7 @@ letters (size n) = ""
 letters (colour c ns) = ""
 letters break = ""
 letters space = ""
-letters (draw s ns) = shapeLetters s
+letters (draw s ns) = drawingLetters s
 letters (device n) = "xT"
 letters (resolution n h v) = "xr"
 letters init = "xi"
@@ -239,5 +239,5 @@ pub record EndHolds (rs : List GlyphRow) (xs : List ItemRow) (e : Env) (r : Read
   pub glyph-colour : ColourHolds (e .glyphPaint) (r .glyph)
   pub fill-colour : ColourHolds (e .fillPaint) (r .fill)
 
-abbrev pub Ends : Type 0
-Ends = (rs : List GlyphRow) (xs : List ItemRow) (e : Env) → EndHolds rs xs e (readingOf (answer rs xs e))
+abbrev pub AnswerHolds : Type 0
+AnswerHolds = (rs : List GlyphRow) (xs : List ItemRow) (e : Env) → EndHolds rs xs e (readingOf (answer rs xs e))
