@@ -303,7 +303,7 @@ module _ (e : Env) (i : Inside e) where
       let g : Goes d y z = drawing-goes s ns h in
       on (mayGo (e .spot) (wayOf s ns))
       (λ f. absurd (neither (shown (e .spot .h) +ℤ y) (shown (e .spot .v) +ℤ z)
-          (all-in (d .terms) (e .spot .h) (d .dh) y (g .0) (may-h e d f)) (all-in (d .terms) (e .spot .v) (d .dv) z (g .1) (may-v e d f)) o))
+      (all-in (d .terms) (e .spot .h) (d .dh) y (g .0) (may-h e d f)) (all-in (d .terms) (e .spot .v) (d .dv) z (g .1) (may-v e d f)) o))
       (λ f. rw f)
 
   stays : Beyond (shown (e .spot .h)) ⊎ Beyond (shown (e .spot .v)) → ⊥

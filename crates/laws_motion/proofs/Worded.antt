@@ -159,8 +159,7 @@ module _ (d : Env) (b m : ℕ) (ys : List Act) (zs : List ℤ) (r : Ready d) (f 
   on-exactly : fits (d .spot .h) m ≡ true → Exactly (glyph (b ∷ []) ∷ by across m ∷ ys) (shown m ∷ zs) d
   on-exactly k =
       let e : shown (plus (d .spot .h) m) ≡ shown (d .spot .h) +ℤ shown m = by-place (d .spot .h) m k in
-      let l : InLimit (shown (d .spot .h) +ℤ shown m) = by-in (d .spot .h) m k in
-      (
+      let l : InLimit (shown (d .spot .h) +ℤ shown m) = by-in (d .spot .h) m k in (
         ⊎-elim (λ o. absurd (clash (shown (d .spot .h) +ℤ shown m) l o)) (λ o. run-fits d b m ys r k ∙ rw (f .0 (rw e o))),
         λ q. inr (rw e at (f .1 (before-ten _ _ _ (before-ten _ _ _ (sym (run-fits d b m ys r k) ∙ q))))),
       )
@@ -258,7 +257,7 @@ moved-by e n = setSpot e (put across (plus (e .spot .h) n) (e .spot))
 -- two digits: h grows, then the glyph
 pair-moved : (w : Widths) (e : Env) (n b : ℕ)
     → After (λ d gs xs. (map glyphH gs ≡ (shown (e .spot .h) +ℤ shown n) ∷ []) × (map glyphV gs ≡ shown (e .spot .v) ∷ []) × (shown (d .spot .h) ≡ shown (e .spot .h) +ℤ shown n) × (shown (d .spot .v) ≡ shown (e .spot .v)))
-        (perform e (acts w e (pair n b)))
+    (perform e (acts w e (pair n b)))
 unfolding run
 pair-moved w e n b =
     ready-after _ e (λ f. these (by across n ∷ glyph (b ∷ []) ∷ [])) (e .font) refl
