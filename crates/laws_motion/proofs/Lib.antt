@@ -1,0 +1,6 @@
+pub mod Steps
+pub mod Integers
+pub mod Held
+pub mod Moved
+pub mod Worded
+pub mod Runs
