@@ -45,14 +45,7 @@ module _ (e : Env) (p : Spot) (a : Act) (zs : List Act) (g : isPlaced (kindOf a)
   -- where nothing differs, nothing is written; where one differs, that one; else both, `H` first
   moves-spare : Sparing (setSpot e p) (moves p (e .spot) ++ a ∷ zs)
   unfolding Sparing act
-  moves-spare =
-      on (eqb (e .spot .h) (p .h))
-      (λ c. on (eqb (e .spot .v) (p .v))
-      (λ d. rw (c, d) (at-h (a ∷ zs) c (at-v (a ∷ zs) d placed-here)))
-      (λ d. rw (c, d) (at-h (to down (e .spot .v) ∷ a ∷ zs) c (to-v d))))
-      (λ c. on (eqb (e .spot .v) (p .v))
-      (λ d. rw (c, d) (to-h (a ∷ zs) c (placed-behind across a zs g) (at-v (a ∷ zs) d placed-here)))
-      (λ d. rw (c, d) (to-h (to down (e .spot .v) ∷ a ∷ zs) c g (to-v d))))
+  moves-spare = both (eqb (e .spot .h) (p .h)) (eqb (e .spot .v) (p .v)) refl refl
     where
       placed-here : Sparing e (a ∷ zs)
       placed-here = (placed-spared e zs (kindOf a) g, here)
@@ -70,63 +63,76 @@ module _ (e : Env) (p : Spot) (a : Act) (zs : List Act) (g : isPlaced (kindOf a)
           → Sparing (setSpot e p) (to across (e .spot .h) ∷ ys)
       to-h ys c b s = ((differs (p .h) (e .spot .h) c, b), after-gate (λ d. Sparing d ys) (onPage e) (setSpot e (record { h = e .spot .h; v = p .v })) s)
 
+      both : (b c : Bool) → eqb (e .spot .h) (p .h) ≡ b → eqb (e .spot .v) (p .v) ≡ c
+          → Sparing (setSpot e p) (((if b then [] else to across (e .spot .h) ∷ []) ++ (if c then [] else to down (e .spot .v) ∷ [])) ++ a ∷ zs)
+      both true true c d = at-h (a ∷ zs) c (at-v (a ∷ zs) d placed-here)
+      both true false c d = at-h (to down (e .spot .v) ∷ a ∷ zs) c (to-v d)
+      both false true c d = to-h (a ∷ zs) c (placed-behind across a zs g) (at-v (a ∷ zs) d placed-here)
+      both false false c d = to-h (to down (e .spot .v) ∷ a ∷ zs) c g (to-v d)
+
 -- ---- what each manner of act comes to, one clause for each act
 
--- the same act of a reader at p
-abbrev Same : Env → Spot → Spot → Act → Step → Type 0
-Same e p q a (refused n) = Unit {0}
-Same e p q a (went d gs is) = act (setSpot e p) a ≡ went (setSpot d q) gs is
+-- a reader at p does the same, and both go on as m says
+abbrev pub Same : Env → Spot → (Spot → Spot) → Act → Step → Type 0
+Same e p m a (refused n) = Unit {0}
+Same e p m a (went d gs is) = (act (setSpot e p) a ≡ went (setSpot d (m p)) gs is) × (d .spot ≡ m (e .spot))
 
-abbrev Stays : Env → Spot → Step → Type 0
-Stays e p (refused n) = Unit {0}
-Stays e p (went d gs is) = setSpot e p ≡ setSpot d p
+abbrev pub stays : Spot → Spot
+stays p = p
+
+abbrev pub top : Spot → Spot
+top p = put down origin p
+
+abbrev pub Keeps : Env → Spot → Step → Type 0
+Keeps e p (refused n) = Unit {0}
+Keeps e p (went d gs is) = setSpot e p ≡ setSpot d p
 
 -- it is no motion
-abbrev Free : Act → Type 0
+abbrev pub Free : Act → Type 0
 Free a = (d : Env) (zs : List Act) → Spared d zs (kindOf a)
 
-abbrev Facts : Manner → Env → Spot → Act → Step → Type 0
+abbrev pub Facts : Manner → Env → Spot → Act → Step → Type 0
 Facts anchored e p a x = isPlaced (kindOf a) ≡ true
-Facts floating e p a x = Free a × Same e p p a x
-Facts turning e p a x = Free a × Same e p (put down origin p) a x
-Facts moving e p a x = Stays e p x
+Facts floating e p a x = Free a × Same e p stays a x
+Facts turning e p a x = Free a × Same e p top a x
+Facts moving e p a x = Keeps e p x
 
 gated : (P : Step → Type 0) (b : Bool) (x : Step) → (b ≡ true → P x) → P (refused 7) → P (if b then x else refused 7)
 gated P b x f y = if-on P b x (refused 7) f (λ k. y)
 
 module _ (e : Env) (p : Spot) where
-  floats : (a : Act) → Free a → (due e a ≡ true → Same e p p a (effect e a)) → Facts floating e p a (act e a)
+  floats : (a : Act) → Free a → (due e a ≡ true → Same e p stays a (effect e a)) → Facts floating e p a (act e a)
   unfolding act
-  floats a r f = (r, gated (Same e p p a) (due e a) (effect e a) f tt)
+  floats a r f = (r, gated (Same e p stays a) (due e a) (effect e a) f tt)
 
   to-font : (n : ℕ) (b : Bool) → isMounted (mountedAt (n - origin) (e .mounts)) ≡ b → inBody e ≡ true
-      → Same e p p (font n) (if b then went (setFont e (n - origin)) [] [] else refused 8)
+      → Same e p stays (font n) (if b then went (setFont e (n - origin)) [] [] else refused 8)
   unfolding act
-  to-font n true q h = rw (h, q)
+  to-font n true q h = (rw (h, q), refl)
   to-font n false q h = tt
 
-  facts : (a : Act) → Facts (manner a) e p a (act e a)
+  pub facts : (a : Act) → Facts (manner a) e p a (act e a)
   unfolding act
   facts (glyph n) = refl
   facts (index n) = if-both (λ (k : Kind). isPlaced k ≡ true) (ltb n origin) mute placed refl refl
-  facts (to x n) = gated (Stays e p) (onPage e) (effect e (to x n)) (λ h. refl) tt
+  facts (to x n) = gated (Keeps e p) (onPage e) (effect e (to x n)) (λ h. refl) tt
   facts (by x n) =
-      gated (Stays e p) (onPage e) (effect e (by x n))
-      (λ h. if-both (Stays e p) (fits (get x (e .spot)) n) (went (setSpot e (put x (plus (get x (e .spot)) n) (e .spot))) [] []) (refused 10) refl tt)
+      gated (Keeps e p) (onPage e) (effect e (by x n))
+      (λ h. if-both (Keeps e p) (fits (get x (e .spot)) n) (went (setSpot e (put x (plus (get x (e .spot)) n) (e .spot))) [] []) (refused 10) refl tt)
       tt
-  facts (page n) = (λ d zs. tt, gated (Same e p (put down origin p) (page n)) (inBody e) (effect e (page n)) (λ h. rw h) tt)
+  facts (page n) = (λ d zs. tt, gated (Same e p top (page n)) (inBody e) (effect e (page n)) (λ h. (rw h, refl)) tt)
   facts (font n) = floats (font n) (λ d zs. tt) (to-font n (isMounted (mountedAt (n - origin) (e .mounts))) refl)
-  facts (size n) = floats (size n) (λ d zs. tt) (λ h. rw h)
-  facts (colour c ns) = floats (colour c ns) (λ d zs. tt) (λ h. rw h)
-  facts break = floats break (λ d zs. tt) (λ h. rw h)
-  facts space = floats space (λ d zs. tt) (λ h. rw h)
+  facts (size n) = floats (size n) (λ d zs. tt) (λ h. (rw h, refl))
+  facts (colour c ns) = floats (colour c ns) (λ d zs. tt) (λ h. (rw h, refl))
+  facts break = floats break (λ d zs. tt) (λ h. (rw h, refl))
+  facts space = floats space (λ d zs. tt) (λ h. (rw h, refl))
   facts (draw s ns) = refl
-  facts (device n) = floats (device n) (λ d zs. tt) (λ h. rw h)
-  facts (resolution n m v) = floats (resolution n m v) (λ d zs. tt) (λ h. rw h)
-  facts init = floats init (λ d zs. tt) (λ h. rw h)
-  facts (file n) = floats (file n) (λ d zs. tt) (λ h. rw h)
-  facts (mount n m) = floats (mount n m) (λ d zs. tt) (λ h. rw h)
-  facts (plain c ns) = floats (plain c ns) (λ d zs. tt) (λ h. rw h)
+  facts (device n) = floats (device n) (λ d zs. tt) (λ h. (rw h, refl))
+  facts (resolution n m v) = floats (resolution n m v) (λ d zs. tt) (λ h. (rw h, refl))
+  facts init = floats init (λ d zs. tt) (λ h. (rw h, refl))
+  facts (file n) = floats (file n) (λ d zs. tt) (λ h. (rw h, refl))
+  facts (mount n m) = floats (mount n m) (λ d zs. tt) (λ h. (rw h, refl))
+  facts (plain c ns) = floats (plain c ns) (λ d zs. tt) (λ h. (rw h, refl))
   facts (raw t) = refl
   facts stop = refl
 
@@ -146,16 +152,16 @@ module _ (e : Env) (p : Spot) (a : Act) (xs : List Act) (more : (d : Env) (q : S
   rest-spared (refused n) = tt
   rest-spared (went d gs is) = more d (d .spot)
 
-  same-spared : (m : Manner) (q : Spot) (x : Step) → ((d : Env) → pen m p (d .spot) ≡ q) → Same e p q a x → After (λ d. Sparing d (rest m x)) (act (setSpot e p) a)
-  same-spared m q (refused n) r f = after-none (act (setSpot e p) a)
-  same-spared m q (went d gs is) r f = rw (f, r d) (more d q)
+  same-spared : (m : Manner) (go : Spot → Spot) (x : Step) → ((d : Env) → pen m p (d .spot) ≡ go p) → Same e p go a x → After (λ d. Sparing d (rest m x)) (act (setSpot e p) a)
+  same-spared m go (refused n) r f = after-none (act (setSpot e p) a)
+  same-spared m go (went d gs is) r f = rw (f .0, r d) (more d (go p))
 
   spared : (m : Manner) (x : Step) → act e a ≡ x → Facts m e p a x → Sparing (setSpot e p) (kept m p (e .spot) a ++ rest m x)
   unfolding Sparing
   spared anchored x q f =
       rw (append-assoc (moves p (e .spot)) (a ∷ []) (rest anchored x)) (moves-spare e p a (rest anchored x) f (rw q (rest-spared x)))
-  spared floating x q f = (f .0 (setSpot e p) (rest floating x), same-spared floating p x (λ d. refl) (f .1))
-  spared turning x q f = (f .0 (setSpot e p) (rest turning x), same-spared turning (put down origin p) x (λ d. refl) (f .1))
+  spared floating x q f = (f .0 (setSpot e p) (rest floating x), same-spared floating stays x (λ d. refl) (f .1))
+  spared turning x q f = (f .0 (setSpot e p) (rest turning x), same-spared turning top x (λ d. refl) (f .1))
   spared moving (refused n) q f = tt
   spared moving (went d gs is) q f = rw f (more d p)
 
