@@ -9,11 +9,11 @@ use lib.ListN.{length, drop}
 use Rattle.rules.specs.Bytes.{if_then_else_, origin}
 use Rattle.rules.specs.Drawing.{wayOf}
 use Rattle.rules.specs.Act.{Shape, Axis, across, down, Act, glyph, index, to, by, page, font, size, colour, break, space, draw, device, resolution, init, file, mount, plain, raw, stop}
-use Rattle.rules.specs.State.{Spot, corner, get, put, item, itemAt, withFont, recorded, indexed, mayGo, Env, setSpot, setPhase, Glyph, Item, Step, refused, went, before, andThen, onPage, inBody, due, effect, act, run}
-use Rattle.laws.proofs.Cases.{on, no, if-on, drop-front}
+use Rattle.rules.specs.State.{Spot, corner, get, put, item, itemAt, withFont, recorded, indexed, mayGo, Env, setSpot, setPhase, Glyph, Item, Step, refused, went, before, andThen, onPage, inBody, due, effect, act, run, stopped}
+use Rattle.laws.proofs.Cases.{on, no, and-left, if-on, drop-front}
 use Rattle.laws_read.proofs.Placed.{didGo}
-use Rattle.laws_moves.specs.Sparing.{Kind, placed, mute, goes, shifts, turns, other, kindOf}
-use Rattle.laws_moves.proofs.Spare.{Same, stays, top, facts}
+use Rattle.laws_moves.specs.Sparing.{placed, mute, kindOf}
+use Rattle.laws_moves.proofs.Spare.{Same, stays, top, not-stopped, facts}
 use Rattle.demands_moves.specs.Statement.{acrossOnly, otherAxis, PlaceToldBy, PlaceTold}
 
 -- ---- what is read, as far as places go
@@ -216,18 +216,21 @@ ends-same (went d gs is) b b′ p q r k h j = sym (j (sym (ap didGo (r refl))) .
 
 -- ---- a line that is passed by: both readers do the same, and their places still differ
 
-to-same : (y : Axis) (n : ℕ) (e : Env) (q : Spot) → Same e q (put y n) (to y n) (act e (to y n))
-unfolding act
-to-same across n e q = gate (Same e q (put across n) (to across n)) (onPage e) (effect e (to across n)) 7 (λ h. (rw h, refl)) tt
-to-same down n e q = gate (Same e q (put down n) (to down n)) (onPage e) (effect e (to down n)) 7 (λ h. (rw h, refl)) tt
+pub on-page-not-stopped : (e : Env) → onPage e ≡ true → stopped e ≡ false
+on-page-not-stopped e h = not-stopped e 3 (and-left (inBody e) (ltb 0 (e .ordinal)) h) refl
 
-mute-same : (n : ℕ) → ltb n origin ≡ true → (e : Env) (q : Spot) → Same e q stays (index n) (act e (index n))
+pub to-same : (y : Axis) (n : ℕ) (e : Env) (q : Spot) → Same e q (put y n) (to y n) (act e (to y n))
+unfolding act
+to-same across n e q = gate (Same e q (put across n) (to across n)) (onPage e) (effect e (to across n)) 7 (λ h. (rw h, refl, on-page-not-stopped e h)) tt
+to-same down n e q = gate (Same e q (put down n) (to down n)) (onPage e) (effect e (to down n)) 7 (λ h. (rw h, refl, on-page-not-stopped e h)) tt
+
+pub mute-same : (n : ℕ) → ltb n origin ≡ true → (e : Env) (q : Spot) → Same e q stays (index n) (act e (index n))
 unfolding act
 mute-same n k e q = gate (Same e q stays (index n)) (onPage e) (effect e (index n)) 7 (λ h. with-font h (e .font) refl) tt
   where
     with-font : onPage e ≡ true → (o : Option ℕ) → e .font ≡ o → Same e q stays (index n) (withFont e (indexed e n) o)
     with-font h none w = tt
-    with-font h (some f) w = gate (Same e q stays (index n)) (ltb 0 (e .size)) (indexed e n f) 8 (λ j. rw k (rw (h, w, j, k) refl, refl)) tt
+    with-font h (some f) w = gate (Same e q stays (index n)) (ltb 0 (e .size)) (indexed e n f) 8 (λ j. rw k (rw (h, w, j, k) refl, refl, on-page-not-stopped e h)) tt
 
 module _ (x : Axis) where
   abbrev Apart : Spot → Spot → Type 0

@@ -1,29 +1,34 @@
 -- Each `H` and `V` line of a house spelling is needed.
-use Prim.Native.Nat.{ℕ}
-use mathlib.Core.Bool.{Bool, true, false}
+use Prim.Native.Nat.{ℕ, suc, _+_, _≤_}
+use native.Mathlib.Omega.{arith}
+use mathlib.Core.Bool.{true, false}
 use mathlib.Core.List.{List, [], _∷_, _++_, map}
+use mathlib.Core.Logic.{_⊎_, inl, inr}
 use mathlib.Core.Path.{_≡_, refl, sym, ap, subst, _∙_}
+use lib.ListN.{length, length-append}
+use borrow.Author.Tests.{ltb-false, le-ltb}
 use Rattle.rules.specs.Act.{Axis, across, down, Act, to, by, Cmd, just, word, pair}
-use Rattle.rules.specs.Scan.{commands, bare}
-use Rattle.rules.specs.Widths.{Widths, sound, widthList}
+use Rattle.rules.specs.Scan.{Cmds, commands, bare}
+use Rattle.rules.specs.Widths.{Widths, widthList}
 use Rattle.rules.specs.State.{Spot, corner, get, put, Env, start, setSpot, Glyph, Item, Step, refused, went, before, andThen, onPage, act, run, steps}
-use Rattle.rules.specs.Record.{Answer, refuse, answer, seen}
+use Rattle.rules.specs.Record.{Answer, refuse, answer, follow, seen}
 use Rattle.rules.specs.House.{played, spelling, spellAct, spellAll}
-use Rattle.rules.specs.Answers.{read, isAccepted, spelled, spellWith, respell}
+use Rattle.rules.specs.Answers.{streamMost, read, isAccepted, spelled, spellWith, respell}
 use Rattle.laws.proofs.Cases.{on, no}
 use Rattle.laws.proofs.Good.{AllGood}
-use Rattle.laws_read.proofs.Runs.{well, run-append, before-nil}
+use Rattle.laws_read.proofs.Runs.{well, run-append, well-before, before-nil}
 use Rattle.laws_read.proofs.Play.{justs, spelling-run}
-use Rattle.laws_read.proofs.Placed.{didGo, seen-goes}
+use Rattle.laws_read.proofs.Placed.{didGo, finish, seen-follow, seen-goes, finish-well}
 use Rattle.laws_read.proofs.Spells.{played-fair, house-good}
-use Rattle.laws_print.proofs.Trip.{round-trip, bare-placed, spellAll-append}
+use Rattle.laws_print.proofs.Trip.{round-trip, bare-placed, placed-ended, spellAll-append}
 use Rattle.laws_scan.proofs.Fair.{commands-good}
 use Rattle.laws_moves.specs.Sparing.{Kind, placed, mute, goes, shifts, turns, other, kindOf, isPlaced, placedNext, vNext, behind, Spared, Sparing}
-use Rattle.laws_moves.proofs.Spare.{house-spares, spared-at}
+use Rattle.laws_moves.proofs.Spare.{house-spares, sparing-at}
 use Rattle.demands.specs.Statements.{Accepted, SameReading, cmdsOf}
-use Rattle.demands.proofs.Theorems.{SoundInputs, sound-of, all-well, read-says, spelling-bare, Spelt, spelt, roundTrip}
+use Rattle.demands.proofs.Theorems.{SoundInputs, sound-of, read-follow, all-well, read-says, same-reading, spelling-bare, Spelt, spelt, roundTrip}
 use Rattle.demands_moves.specs.Statement.{PlaceToldBy, PlaceTold, muteBy, muteNext, OnlyWhereItDiffers, MotionsNeeded}
-use Rattle.demands_moves.proofs.Leaving.{Alike, Reads, Rest, peel, differ, go-before}
+use Rattle.demands_moves.proofs.Leaving.{Alike, Reads, Rest, peel, differ, go-before, on-page-not-stopped}
+use Rattle.demands_moves.proofs.Idle.{Beside, idle}
 
 -- ---- the acts of a spelling
 
@@ -107,6 +112,16 @@ text-reads list us g h = go (sym (seen-goes (read (spellAll us) list)) ∙ h)
     go : Accepted (spellAll us) list → seen (read (spellAll us) list) ≡ run start us
     go a = by-acts a (sound-of (spellAll us) list a)
 
+-- and is not refused where they all go well and it is not too long
+text-read : (list : List ℕ) (us : List Act) → AllGood us → well (run start us) ≡ true → SoundInputs (spellAll us) list → seen (read (spellAll us) list) ≡ run start us
+text-read list us g h z =
+    ap seen (read-follow (spellAll us) list z)
+    ∙ ap (λ (c : Cmds). seen (follow (z .widths) start c)) (round-trip us g 0)
+    ∙ seen-follow (z .widths) (Rattle.laws_print.proofs.Trip.placed 0 us) start (placed-ended us 0)
+    ∙ ap (λ (c : List Cmd). finish (steps (z .widths) start c)) (bare-placed us 0)
+    ∙ ap finish (justs (z .widths) us start)
+    ∙ finish-well (run start us) h
+
 alike-of : (a b : Answer) → SameReading a b → Alike (seen a) (seen b)
 alike-of (refuse n at) (refuse m bt) k = record { records = k .glyphs; entries = k .drawings-and-controls; end = k .end-position }
 alike-of (refuse n at) (answer rs xs e) k = record { records = k .glyphs; entries = k .drawings-and-controls; end = k .end-position }
@@ -148,6 +163,44 @@ module _ (xs : List Act) (x : Axis) (n : ℕ) (ys : List Act) (e : Env) (gs : Li
           peel gs is a (run (setSpot e (put x n (e .spot))) ys) (run e ys) goes-on (λ h. r h ∙ without) (subst (Alike a) whole k) in
           differ x ys (setSpot e (put x n (e .spot))) (e .spot) (l .read) (λ h. d (h ∙ get-put x n (e .spot))) t goes-on (l .reads) (l .alike)
 
+put-beside : (x : Axis) (n : ℕ) (p : Spot) → Beside x (put x n p) p
+put-beside across n p = refl
+put-beside down n p = refl
+
+motion-idle : (e : Env) (x : Axis) (n : ℕ) (ys : List Act) → Sparing e (to x n ∷ ys) → well (run e (to x n ∷ ys)) ≡ true
+    → PlaceTold x ys ⊎ (run e ys ≡ run e (to x n ∷ ys))
+unfolding Sparing run act
+motion-idle e x n ys s w = on (onPage e) (λ h. go h (rw h at (s .1))) (λ h. no (rw h at w))
+  where
+    same : run e (to x n ∷ ys) ≡ run (setSpot e (put x n (e .spot))) ys
+    same = moved e x n ys (well-goes (run e (to x n ∷ ys)) w)
+
+    on-to : PlaceTold x ys ⊎ (run e ys ≡ run (setSpot e (put x n (e .spot))) ys) → PlaceTold x ys ⊎ (run e ys ≡ run e (to x n ∷ ys))
+    on-to (inl p) = inl p
+    on-to (inr h) = inr (h ∙ sym same)
+
+    go : onPage e ≡ true → Sparing (setSpot e (put x n (e .spot))) ys → PlaceTold x ys ⊎ (run e ys ≡ run e (to x n ∷ ys))
+    go h s = on-to (idle x ys (setSpot e (put x n (e .spot))) (e .spot) (put-beside x n (e .spot)) (on-page-not-stopped e h) s (sym (ap well same) ∙ w))
+
+-- the place is told behind the line, or the text without it is read by the same steps
+idle-line : (xs : List Act) (x : Axis) (n : ℕ) (ys : List Act) (e : Env) (gs : List Glyph) (is : List Item) → run start xs ≡ went e gs is
+    → Sparing start (xs ++ to x n ∷ ys) → well (run start (xs ++ to x n ∷ ys)) ≡ true → PlaceTold x ys ⊎ (run start (xs ++ ys) ≡ run start (xs ++ to x n ∷ ys))
+idle-line xs x n ys e gs is ran s g =
+    go (well-before gs is (run e (to x n ∷ ys)) (sym (ap well whole) ∙ g))
+  where
+    whole : run start (xs ++ to x n ∷ ys) ≡ before gs is (run e (to x n ∷ ys))
+    whole = run-append xs (to x n ∷ ys) start ∙ ap (λ (z : Step). andThen z (λ u. run u (to x n ∷ ys))) ran
+
+    without : run start (xs ++ ys) ≡ before gs is (run e ys)
+    without = run-append xs ys start ∙ ap (λ (z : Step). andThen z (λ u. run u ys)) ran
+
+    on-to : PlaceTold x ys ⊎ (run e ys ≡ run e (to x n ∷ ys)) → PlaceTold x ys ⊎ (run start (xs ++ ys) ≡ run start (xs ++ to x n ∷ ys))
+    on-to (inl p) = inl p
+    on-to (inr h) = inr (without ∙ ap (before gs is) h ∙ sym whole)
+
+    go : well (run e (to x n ∷ ys)) ≡ true → PlaceTold x ys ⊎ (run start (xs ++ ys) ≡ run start (xs ++ to x n ∷ ys))
+    go w = on-to (motion-idle e x n ys (sparing-at xs (to x n ∷ ys) start e gs is s ran) w)
+
 -- ---- what is placed next tells, unless it is a negative `N`
 
 next-told : (x : Axis) (ys : List Act) → placedNext ys ≡ true → muteNext ys ≡ false → PlaceTold x ys
@@ -185,19 +238,52 @@ module _ (list t : List ℕ) (xs : List Act) (x : Axis) (n : ℕ) (ys : List Act
   unfolding spellAll
   line-text = z .text ∙ spellAll-append xs (to x n ∷ ys)
 
+  whole-says : seen (read t list) ≡ run start (xs ++ to x n ∷ ys)
+  whole-says = rw (z .text) (text-reads list (xs ++ to x n ∷ ys) (z .good) (rw (← z .text) (seen-goes (read t list) ∙ z .accepted)))
+
   line-needed : (b : Before xs (to x n) ys) → (get x (b .reader .spot) ≡ n → ⊥) → PlaceTold x ys → SameReading (read (spellAll xs ++ spellAll ys) list) (read t list) → ⊥
   line-needed b d p k =
       let without : Reads (seen (read (spellAll xs ++ spellAll ys) list)) (run start (xs ++ ys)) =
       rw (← spellAll-append xs ys) (text-reads list (xs ++ ys) (drop-good xs (to x n) ys (z .good))) in
-      let whole : seen (read t list) ≡ run start (xs ++ to x n ∷ ys) =
-      rw (z .text) (text-reads list (xs ++ to x n ∷ ys) (z .good) (rw (← z .text) (seen-goes (read t list) ∙ z .accepted))) in
       apart xs x n ys (b .reader) (b .glyphs) (b .items) (b .so-far) d (seen (read (spellAll xs ++ spellAll ys) list)) without
-      (subst (Alike (seen (read (spellAll xs ++ spellAll ys) list))) whole (alike-of (read (spellAll xs ++ spellAll ys) list) (read t list) k))
+      (subst (Alike (seen (read (spellAll xs ++ spellAll ys) list))) whole-says (alike-of (read (spellAll xs ++ spellAll ys) list) (read t list) k))
       (well-goes (run start (xs ++ to x n ∷ ys)) (z .all-went)) p
 
+  -- the text without the line is shorter
+  without-sound : SoundInputs t list → SoundInputs (spellAll (xs ++ ys)) list
+  without-sound i = record { widths = i .widths; list-sound = i .list-sound; stream-short = le-ltb streamMost (length (spellAll (xs ++ ys))) shorter; list-short = i .list-short }
+    where
+      lengths : length t ≡ length (spellAll xs) + (length (spellAct (to x n)) + suc (length (spellAll ys)))
+      lengths =
+          ap length line-text
+          ∙ length-append (spellAll xs) (spellAct (to x n) ++ 10 ∷ spellAll ys)
+          ∙ ap (λ (k : ℕ). length (spellAll xs) + k) (length-append (spellAct (to x n)) (10 ∷ spellAll ys))
+
+      without-lengths : length (spellAll (xs ++ ys)) ≡ length (spellAll xs) + length (spellAll ys)
+      without-lengths = ap length (spellAll-append xs ys) ∙ length-append (spellAll xs) (spellAll ys)
+
+      shorter : length (spellAll (xs ++ ys)) ≤ streamMost
+      shorter = let m : length t ≤ streamMost = ltb-false streamMost (length t) (i .stream-short) in omega (arith, lengths, without-lengths)
+
+  -- where it is read by the same steps, it is the same reading
+  same-without : SoundInputs t list → run start (xs ++ ys) ≡ run start (xs ++ to x n ∷ ys) → SameReading (read (spellAll (xs ++ ys)) list) (read t list)
+  same-without i h =
+      let says : seen (read (spellAll (xs ++ ys)) list) ≡ seen (read t list) =
+      text-read list (xs ++ ys) (drop-good xs (to x n) ys (z .good)) (ap well h ∙ z .all-went) (without-sound i) ∙ h ∙ sym whole-says in
+      let accepted-too : isAccepted (read (spellAll (xs ++ ys)) list) ≡ true = sym (seen-goes (read (spellAll (xs ++ ys)) list)) ∙ ap didGo says ∙ seen-goes (read t list) ∙ z .accepted in
+      same-reading (read (spellAll (xs ++ ys)) list) (read t list) accepted-too (z .accepted) says
+
+  told-or : (b : Before xs (to x n) ys) → PlaceTold x ys ⊎ SameReading (read (spellAll xs ++ spellAll ys) list) (read t list)
+  told-or b = go (idle-line xs x n ys (b .reader) (b .glyphs) (b .items) (b .so-far) (z .spared) (z .all-went))
+    where
+      go : PlaceTold x ys ⊎ (run start (xs ++ ys) ≡ run start (xs ++ to x n ∷ ys)) → PlaceTold x ys ⊎ SameReading (read (spellAll xs ++ spellAll ys) list) (read t list)
+      go (inl p) = inl p
+      go (inr h) = inr (rw (← spellAll-append xs ys) (same-without (sound-of t list (z .accepted)) h))
+
   only-there : Before xs (to x n) ys → OnlyWhereItDiffers list t xs x n ys
+  unfolding Sparing
   only-there b =
-      let s : Spared (b .reader) ys (goes x n) = spared-at xs (to x n) ys start (b .reader) (b .glyphs) (b .items) (z .spared) (b .so-far) in
+      let s : Spared (b .reader) ys (goes x n) = sparing-at xs (to x n ∷ ys) start (b .reader) (b .glyphs) (b .items) (z .spared) (b .so-far) .0 in
       record {
         reader = b .reader;
         glyphs = b .glyphs;
@@ -206,11 +292,13 @@ module _ (list t : List ℕ) (xs : List Act) (x : Axis) (n : ℕ) (ys : List Act
         differs = s .0;
         before-placed = s .1;
         line = line-text;
-        told = place-told x ys (s .1);
         needed = line-needed b (s .0);
+        told-or-same = told-or b;
+        told = place-told x ys (s .1);
       }
 
 pub motionsNeeded : MotionsNeeded
+unfolding Sparing
 motionsNeeded = record {
   each = λ s list t h xs x n ys q. each list t xs x n ys (spelling-of s list t h (xs ++ to x n ∷ ys) q);
   no-other = λ s list t h xs x n ys q. other-motion list t xs x n ys (spelling-of s list t h (xs ++ by x n ∷ ys) q);
@@ -222,4 +310,4 @@ motionsNeeded = record {
     other-motion : (list t : List ℕ) (xs : List Act) (x : Axis) (n : ℕ) (ys : List Act) → Spelling list t (xs ++ by x n ∷ ys) → ⊥
     other-motion list t xs x n ys z =
         let b : Before xs (by x n) ys = before-of xs (by x n) ys (z .all-went) in
-        spared-at xs (by x n) ys start (b .reader) (b .glyphs) (b .items) (z .spared) (b .so-far)
+        sparing-at xs (by x n ∷ ys) start (b .reader) (b .glyphs) (b .items) (z .spared) (b .so-far) .0

@@ -3,6 +3,7 @@
 use Prim.Native.Nat.{ℕ}
 use mathlib.Core.Bool.{Bool, true, false}
 use mathlib.Core.List.{List, [], _∷_, _++_, map}
+use mathlib.Core.Logic.{_⊎_}
 use mathlib.Core.Path.{_≡_}
 use Rattle.rules.specs.Act.{Axis, across, down, Act, to, by, just}
 use Rattle.rules.specs.State.{get, Env, start, Glyph, Item, went, run}
@@ -63,10 +64,12 @@ pub record OnlyWhereItDiffers (list t : List ℕ) (xs : List Act) (x : Axis) (n 
   pub before-placed : behind x ys ≡ true
   -- the line in the text
   pub line : t ≡ spellAll xs ++ (spellAct (to x n) ++ 10 ∷ spellAll ys)
-  -- The text without the line is not read as the spelling is: it is refused, or a record, an entry or the end position differs. What is
-  -- placed next tells, unless it is a negative `N`: that has neither record nor entry, and another motion may come before anything that has.
-  pub told : muteNext ys ≡ false → PlaceTold x ys
+  -- where the place is told, the text without the line is not read as the spelling is: it is refused, or a record, an entry or the end
+  -- position differs; where it is not told, nothing differs
   pub needed : PlaceTold x ys → SameReading (read (spellAll xs ++ spellAll ys) list) (read t list) → ⊥
+  pub told-or-same : PlaceTold x ys ⊎ SameReading (read (spellAll xs ++ spellAll ys) list) (read t list)
+  -- what is placed next tells it, unless that is a negative `N`, which has neither record nor entry
+  pub told : muteNext ys ≡ false → PlaceTold x ys
 
 pub record MotionsNeeded : Type 0 where
   pub each : (s list t : List ℕ) → respell s list ≡ spelled t → (xs : List Act) (x : Axis) (n : ℕ) (ys : List Act) → cmdsOf t ≡ map just (xs ++ to x n ∷ ys)

@@ -7,10 +7,10 @@ use lib.Dec.{ltb, eqb}
 use borrow.Author.Tests.{eqb-true, eq-eqb}
 use Rattle.rules.specs.Bytes.{if_then_else_, origin}
 use Rattle.rules.specs.Act.{Axis, across, down, Act, glyph, index, to, by, page, font, size, colour, break, space, draw, device, resolution, init, file, mount, plain, raw, stop}
-use Rattle.rules.specs.State.{Spot, get, put, fits, plus, mountedAt, isMounted, Env, setSpot, setFont, Glyph, Item, Step, refused, went, before, andThen, onPage, inBody, due, effect, act, run}
+use Rattle.rules.specs.State.{Spot, get, put, fits, plus, mountedAt, isMounted, Env, setSpot, setFont, Glyph, Item, Step, refused, went, before, andThen, onPage, inBody, due, effect, act, run, stopped}
 use Rattle.rules.specs.House.{Manner, anchored, floating, turning, moving, manner, moves, kept, pen, onward, house}
-use Rattle.laws.proofs.Cases.{on, no, if-both, if-on}
-use Rattle.laws_moves.specs.Sparing.{Kind, placed, mute, goes, shifts, turns, other, kindOf, isPlaced, placedNext, vNext, behind, Spared, After, Sparing}
+use Rattle.laws.proofs.Cases.{no, if-both, if-on}
+use Rattle.laws_moves.specs.Sparing.{Kind, placed, mute, goes, shifts, turns, other, kindOf, isPlaced, vNext, behind, Spared, After, Sparing}
 
 -- ---- the motions before what is placed
 
@@ -72,10 +72,10 @@ module _ (e : Env) (p : Spot) (a : Act) (zs : List Act) (g : isPlaced (kindOf a)
 
 -- ---- what each manner of act comes to, one clause for each act
 
--- a reader at p does the same, and both go on as m says
+-- a reader at p does the same, both go on as m says, and `x s` has not come
 abbrev pub Same : Env → Spot → (Spot → Spot) → Act → Step → Type 0
 Same e p m a (refused n) = Unit {0}
-Same e p m a (went d gs is) = (act (setSpot e p) a ≡ went (setSpot d (m p)) gs is) × (d .spot ≡ m (e .spot))
+Same e p m a (went d gs is) = (act (setSpot e p) a ≡ went (setSpot d (m p)) gs is) × (d .spot ≡ m (e .spot)) × (stopped d ≡ false)
 
 abbrev pub stays : Spot → Spot
 stays p = p
@@ -97,6 +97,9 @@ Facts floating e p a x = Free a × Same e p stays a x
 Facts turning e p a x = Free a × Same e p top a x
 Facts moving e p a x = Keeps e p x
 
+pub not-stopped : (e : Env) (n : ℕ) → eqb (e .phase) n ≡ true → eqb n 4 ≡ false → stopped e ≡ false
+not-stopped e n h k = rw (eqb-true (e .phase) n h, k)
+
 gated : (P : Step → Type 0) (b : Bool) (x : Step) → (b ≡ true → P x) → P (refused 7) → P (if b then x else refused 7)
 gated P b x f y = if-on P b x (refused 7) f (λ k. y)
 
@@ -108,7 +111,7 @@ module _ (e : Env) (p : Spot) where
   to-font : (n : ℕ) (b : Bool) → isMounted (mountedAt (n - origin) (e .mounts)) ≡ b → inBody e ≡ true
       → Same e p stays (font n) (if b then went (setFont e (n - origin)) [] [] else refused 8)
   unfolding act
-  to-font n true q h = (rw (h, q), refl)
+  to-font n true q h = (rw (h, q), refl, not-stopped e 3 h refl)
   to-font n false q h = tt
 
   pub facts : (a : Act) → Facts (manner a) e p a (act e a)
@@ -120,19 +123,19 @@ module _ (e : Env) (p : Spot) where
       gated (Keeps e p) (onPage e) (effect e (by x n))
       (λ h. if-both (Keeps e p) (fits (get x (e .spot)) n) (went (setSpot e (put x (plus (get x (e .spot)) n) (e .spot))) [] []) (refused 10) refl tt)
       tt
-  facts (page n) = (λ d zs. tt, gated (Same e p top (page n)) (inBody e) (effect e (page n)) (λ h. (rw h, refl)) tt)
+  facts (page n) = (λ d zs. tt, gated (Same e p top (page n)) (inBody e) (effect e (page n)) (λ h. (rw h, refl, not-stopped e 3 h refl)) tt)
   facts (font n) = floats (font n) (λ d zs. tt) (to-font n (isMounted (mountedAt (n - origin) (e .mounts))) refl)
-  facts (size n) = floats (size n) (λ d zs. tt) (λ h. (rw h, refl))
-  facts (colour c ns) = floats (colour c ns) (λ d zs. tt) (λ h. (rw h, refl))
-  facts break = floats break (λ d zs. tt) (λ h. (rw h, refl))
-  facts space = floats space (λ d zs. tt) (λ h. (rw h, refl))
+  facts (size n) = floats (size n) (λ d zs. tt) (λ h. (rw h, refl, not-stopped e 3 h refl))
+  facts (colour c ns) = floats (colour c ns) (λ d zs. tt) (λ h. (rw h, refl, not-stopped e 3 h refl))
+  facts break = floats break (λ d zs. tt) (λ h. (rw h, refl, not-stopped e 3 h refl))
+  facts space = floats space (λ d zs. tt) (λ h. (rw h, refl, not-stopped e 3 h refl))
   facts (draw s ns) = refl
-  facts (device n) = floats (device n) (λ d zs. tt) (λ h. (rw h, refl))
-  facts (resolution n m v) = floats (resolution n m v) (λ d zs. tt) (λ h. (rw h, refl))
-  facts init = floats init (λ d zs. tt) (λ h. (rw h, refl))
-  facts (file n) = floats (file n) (λ d zs. tt) (λ h. (rw h, refl))
-  facts (mount n m) = floats (mount n m) (λ d zs. tt) (λ h. (rw h, refl))
-  facts (plain c ns) = floats (plain c ns) (λ d zs. tt) (λ h. (rw h, refl))
+  facts (device n) = floats (device n) (λ d zs. tt) (λ h. (rw h, refl, refl))
+  facts (resolution n m v) = floats (resolution n m v) (λ d zs. tt) (λ h. (rw h, refl, refl))
+  facts init = floats init (λ d zs. tt) (λ h. (rw h, refl, refl))
+  facts (file n) = floats (file n) (λ d zs. tt) (λ h. (rw h, refl, not-stopped e 3 h refl))
+  facts (mount n m) = floats (mount n m) (λ d zs. tt) (λ h. (rw h, refl, not-stopped e 3 h refl))
+  facts (plain c ns) = floats (plain c ns) (λ d zs. tt) (λ h. (rw h, refl, not-stopped e 3 h refl))
   facts (raw t) = refl
   facts stop = refl
 
@@ -171,7 +174,7 @@ unfolding house Sparing
 house-spares [] e p = tt
 house-spares (a ∷ xs) e p = spared e p a xs (λ d q. house-spares xs d q) (manner a) (act e a) refl (facts e p a)
 
--- ---- at one act
+-- ---- in the midst of a spelling
 
 abbrev didGo : Step → Bool
 didGo (refused n) = false
@@ -181,20 +184,19 @@ abbrev endOf : Env → Step → Env
 endOf v (refused n) = v
 endOf v (went u gs is) = u
 
--- by what a reader has who read all that stands before it
-pub spared-at : (xs : List Act) (a : Act) (ys : List Act) (d e : Env) (gs : List Glyph) (is : List Item) → Sparing d (xs ++ a ∷ ys) → run d xs ≡ went e gs is
-    → Spared e ys (kindOf a)
+-- with what a reader has who read all that stands before
+pub sparing-at : (xs zs : List Act) (d e : Env) (gs : List Glyph) (is : List Item) → Sparing d (xs ++ zs) → run d xs ≡ went e gs is → Sparing e zs
 unfolding Sparing run
-spared-at [] a ys d e gs is s q = rw (← ap (endOf d) q) (s .0)
-spared-at (x ∷ xs) a ys d e gs is s q = go (act d x) (s .1) (λ b hs js t r. spared-at xs a ys b e hs js t r) q
+sparing-at [] zs d e gs is s q = rw (← ap (endOf d) q) s
+sparing-at (x ∷ xs) zs d e gs is s q = go (act d x) (s .1) (λ b hs js t r. sparing-at xs zs b e hs js t r) q
   where
     back : (hs : List Glyph) (js : List Item) (y : Step) → before hs js y ≡ went e gs is
-        → ((gs′ : List Glyph) (is′ : List Item) → y ≡ went e gs′ is′ → Spared e ys (kindOf a)) → Spared e ys (kindOf a)
+        → ((gs′ : List Glyph) (is′ : List Item) → y ≡ went e gs′ is′ → Sparing e zs) → Sparing e zs
     back hs js (refused n) r f = no (ap didGo r)
     back hs js (went u gs′ is′) r f = f gs′ is′ (ap (λ (v : Env). went v gs′ is′) (ap (endOf u) r))
 
-    go : (y : Step) → After (λ b. Sparing b (xs ++ a ∷ ys)) y
-        → ((b : Env) (hs : List Glyph) (js : List Item) → Sparing b (xs ++ a ∷ ys) → run b xs ≡ went e hs js → Spared e ys (kindOf a))
-        → andThen y (λ b. run b xs) ≡ went e gs is → Spared e ys (kindOf a)
+    go : (y : Step) → After (λ b. Sparing b (xs ++ zs)) y
+        → ((b : Env) (hs : List Glyph) (js : List Item) → Sparing b (xs ++ zs) → run b xs ≡ went e hs js → Sparing e zs)
+        → andThen y (λ b. run b xs) ≡ went e gs is → Sparing e zs
     go (refused n) t f r = no (ap didGo r)
     go (went b hs js) t f r = back hs js (run b xs) r (λ gs′ is′ o. f b gs′ is′ t o)
