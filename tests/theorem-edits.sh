@@ -46,7 +46,7 @@ cp -r crates crates.txt "$work/clean"
 rm "$work/clean/crates/rules/specs/Samples.antt"
 sed -i '/pub mod Samples/d' "$work/clean/crates/rules/specs/Lib.antt"
 failed=0
-if ! (cd "$work/clean" && rt check demands > "$work/log" 2>&1); then
+if ! (cd "$work/clean" && rt check demands demands_moves > "$work/log" 2>&1); then
     echo "theorem-edits: the copy without an edit is not proved"
     tail -n 5 "$work/log"
     failed=1

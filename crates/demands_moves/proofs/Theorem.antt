@@ -78,18 +78,31 @@ spelling-of s list t h zs q = first (spelt (spellWith s (widthList list)) t (rea
     first : Spelt (spellWith s (widthList list)) t (read s list) → Spelling list t zs
     first p = second (sound-of s list (p .accepted)) p
 
+single-acts : (s list t : List ℕ) → respell s list ≡ spelled t → (zs : List Act) × (cmdsOf t ≡ map just zs)
+unfolding respell
+single-acts s list t h = first (spelt (spellWith s (widthList list)) t (read s list) h)
+  where
+    second : (z : SoundInputs s list) → Spelt (spellWith s (widthList list)) t (read s list) → (zs : List Act) × (cmdsOf t ≡ map just zs)
+    second z p = (spelling (z .widths) (cmdsOf s), ap cmdsOf (sym (rw (z .list-sound) at (p .text))) ∙ spelling-bare (z .widths) s (all-well s list z (p .accepted)))
+
+    first : Spelt (spellWith s (widthList list)) t (read s list) → (zs : List Act) × (cmdsOf t ≡ map just zs)
+    first p = second (sound-of s list (p .accepted)) p
+
 -- ---- what a reader of the lines before one has
 
-record Before (xs : List Act) (a : Act) (ys : List Act) : Type 0 where
+record Before (xs : List Act) : Type 0 where
   reader : Env
   glyphs : List Glyph
   items : List Item
   so-far : run start xs ≡ went reader glyphs items
 
-before-of : (xs : List Act) (a : Act) (ys : List Act) → well (run start (xs ++ a ∷ ys)) ≡ true → Before xs a ys
+run-on : (xs ys : List Act) (e : Env) (gs : List Glyph) (is : List Item) → run start xs ≡ went e gs is → run start (xs ++ ys) ≡ before gs is (run e ys)
+run-on xs ys e gs is ran = run-append xs ys start ∙ ap (λ (z : Step). andThen z (λ u. run u ys)) ran
+
+before-of : (xs : List Act) (a : Act) (ys : List Act) → well (run start (xs ++ a ∷ ys)) ≡ true → Before xs
 before-of xs a ys g = go (run start xs) refl (sym (ap well (run-append xs (a ∷ ys) start)) ∙ g)
   where
-    go : (z : Step) → run start xs ≡ z → well (andThen z (λ e. run e (a ∷ ys))) ≡ true → Before xs a ys
+    go : (z : Step) → run start xs ≡ z → well (andThen z (λ e. run e (a ∷ ys))) ≡ true → Before xs
     go (refused n) q h = no h
     go (went e gs is) q h = record { reader = e; glyphs = gs; items = is; so-far = q }
 
@@ -144,24 +157,14 @@ moved e x n ys g = on (onPage e) (λ h. rw h (before-nil (run (setSpot e (put x 
 module _ (xs : List Act) (x : Axis) (n : ℕ) (ys : List Act) (e : Env) (gs : List Glyph) (is : List Item) (ran : run start xs ≡ went e gs is) (d : get x (e .spot) ≡ n → ⊥) where
   -- what is read of the text without the line is not what is read of the whole
   apart : (a : Step) → Reads a (run start (xs ++ ys)) → Alike a (run start (xs ++ to x n ∷ ys)) → didGo (run start (xs ++ to x n ∷ ys)) ≡ true → PlaceTold x ys → ⊥
-  apart a r k g t = go (subst didGone (run-append xs (to x n ∷ ys) start ∙ ap then-line ran) g)
-    where
-      then-line : Step → Step
-      then-line z = andThen z (λ u. run u (to x n ∷ ys))
-
-      didGone : Step → Type 0
-      didGone z = didGo z ≡ true
-
-      go : didGo (before gs is (run e (to x n ∷ ys))) ≡ true → ⊥
-      go g =
-          let line-goes : didGo (run e (to x n ∷ ys)) ≡ true = go-before gs is (run e (to x n ∷ ys)) g in
-          let same : run e (to x n ∷ ys) ≡ run (setSpot e (put x n (e .spot))) ys = moved e x n ys line-goes in
-          let whole : run start (xs ++ to x n ∷ ys) ≡ before gs is (run (setSpot e (put x n (e .spot))) ys) = run-append xs (to x n ∷ ys) start ∙ ap then-line ran ∙ ap (before gs is) same in
-          let without : run start (xs ++ ys) ≡ before gs is (run e ys) = run-append xs ys start ∙ ap (λ (z : Step). andThen z (λ u. run u ys)) ran in
-          let goes-on : didGo (run (setSpot e (put x n (e .spot))) ys) ≡ true = sym (ap didGo same) ∙ line-goes in
-          let l : Rest (run (setSpot e (put x n (e .spot))) ys) (run e ys) =
-          peel gs is a (run (setSpot e (put x n (e .spot))) ys) (run e ys) goes-on (λ h. r h ∙ without) (subst (Alike a) whole k) in
-          differ x ys (setSpot e (put x n (e .spot))) (e .spot) (l .read) (λ h. d (h ∙ get-put x n (e .spot))) t goes-on (l .reads) (l .alike)
+  apart a r k g t =
+      let there : Env = setSpot e (put x n (e .spot)) in
+      let whole : run start (xs ++ to x n ∷ ys) ≡ before gs is (run e (to x n ∷ ys)) = run-on xs (to x n ∷ ys) e gs is ran in
+      let line-goes : didGo (run e (to x n ∷ ys)) ≡ true = go-before gs is (run e (to x n ∷ ys)) (sym (ap didGo whole) ∙ g) in
+      let same : run e (to x n ∷ ys) ≡ run there ys = moved e x n ys line-goes in
+      let goes-on : didGo (run there ys) ≡ true = sym (ap didGo same) ∙ line-goes in
+      let l : Rest (run there ys) (run e ys) = peel gs is a (run there ys) (run e ys) goes-on (λ h. r h ∙ run-on xs ys e gs is ran) (subst (Alike a) (whole ∙ ap (before gs is) same) k) in
+      differ x ys there (e .spot) (l .read) (λ h. d (h ∙ get-put x n (e .spot))) t goes-on (l .reads) (l .alike)
 
 put-beside : (x : Axis) (n : ℕ) (p : Spot) → Beside x (put x n p) p
 put-beside across n p = refl
@@ -189,14 +192,11 @@ idle-line xs x n ys e gs is ran s g =
     go (well-before gs is (run e (to x n ∷ ys)) (sym (ap well whole) ∙ g))
   where
     whole : run start (xs ++ to x n ∷ ys) ≡ before gs is (run e (to x n ∷ ys))
-    whole = run-append xs (to x n ∷ ys) start ∙ ap (λ (z : Step). andThen z (λ u. run u (to x n ∷ ys))) ran
-
-    without : run start (xs ++ ys) ≡ before gs is (run e ys)
-    without = run-append xs ys start ∙ ap (λ (z : Step). andThen z (λ u. run u ys)) ran
+    whole = run-on xs (to x n ∷ ys) e gs is ran
 
     on-to : PlaceTold x ys ⊎ (run e ys ≡ run e (to x n ∷ ys)) → PlaceTold x ys ⊎ (run start (xs ++ ys) ≡ run start (xs ++ to x n ∷ ys))
     on-to (inl p) = inl p
-    on-to (inr h) = inr (without ∙ ap (before gs is) h ∙ sym whole)
+    on-to (inr h) = inr (run-on xs ys e gs is ran ∙ ap (before gs is) h ∙ sym whole)
 
     go : well (run e (to x n ∷ ys)) ≡ true → PlaceTold x ys ⊎ (run start (xs ++ ys) ≡ run start (xs ++ to x n ∷ ys))
     go w = on-to (motion-idle e x n ys (sparing-at xs (to x n ∷ ys) start e gs is s ran) w)
@@ -241,7 +241,7 @@ module _ (list t : List ℕ) (xs : List Act) (x : Axis) (n : ℕ) (ys : List Act
   whole-says : seen (read t list) ≡ run start (xs ++ to x n ∷ ys)
   whole-says = rw (z .text) (text-reads list (xs ++ to x n ∷ ys) (z .good) (rw (← z .text) (seen-goes (read t list) ∙ z .accepted)))
 
-  line-needed : (b : Before xs (to x n) ys) → (get x (b .reader .spot) ≡ n → ⊥) → PlaceTold x ys → SameReading (read (spellAll xs ++ spellAll ys) list) (read t list) → ⊥
+  line-needed : (b : Before xs) → (get x (b .reader .spot) ≡ n → ⊥) → PlaceTold x ys → SameReading (read (spellAll xs ++ spellAll ys) list) (read t list) → ⊥
   line-needed b d p k =
       let without : Reads (seen (read (spellAll xs ++ spellAll ys) list)) (run start (xs ++ ys)) =
       rw (← spellAll-append xs ys) (text-reads list (xs ++ ys) (drop-good xs (to x n) ys (z .good))) in
@@ -273,14 +273,14 @@ module _ (list t : List ℕ) (xs : List Act) (x : Axis) (n : ℕ) (ys : List Act
       let accepted-too : isAccepted (read (spellAll (xs ++ ys)) list) ≡ true = sym (seen-goes (read (spellAll (xs ++ ys)) list)) ∙ ap didGo says ∙ seen-goes (read t list) ∙ z .accepted in
       same-reading (read (spellAll (xs ++ ys)) list) (read t list) accepted-too (z .accepted) says
 
-  told-or : (b : Before xs (to x n) ys) → PlaceTold x ys ⊎ SameReading (read (spellAll xs ++ spellAll ys) list) (read t list)
+  told-or : (b : Before xs) → PlaceTold x ys ⊎ SameReading (read (spellAll xs ++ spellAll ys) list) (read t list)
   told-or b = go (idle-line xs x n ys (b .reader) (b .glyphs) (b .items) (b .so-far) (z .spared) (z .all-went))
     where
       go : PlaceTold x ys ⊎ (run start (xs ++ ys) ≡ run start (xs ++ to x n ∷ ys)) → PlaceTold x ys ⊎ SameReading (read (spellAll xs ++ spellAll ys) list) (read t list)
       go (inl p) = inl p
       go (inr h) = inr (rw (← spellAll-append xs ys) (same-without (sound-of t list (z .accepted)) h))
 
-  only-there : Before xs (to x n) ys → OnlyWhereItDiffers list t xs x n ys
+  only-there : Before xs → OnlyWhereItDiffers list t xs x n ys
   unfolding Sparing
   only-there b =
       let s : Spared (b .reader) ys (goes x n) = sparing-at xs (to x n ∷ ys) start (b .reader) (b .glyphs) (b .items) (z .spared) (b .so-far) .0 in
@@ -300,6 +300,7 @@ module _ (list t : List ℕ) (xs : List Act) (x : Axis) (n : ℕ) (ys : List Act
 pub motionsNeeded : MotionsNeeded
 unfolding Sparing
 motionsNeeded = record {
+  single = single-acts;
   each = λ s list t h xs x n ys q. each list t xs x n ys (spelling-of s list t h (xs ++ to x n ∷ ys) q);
   no-other = λ s list t h xs x n ys q. other-motion list t xs x n ys (spelling-of s list t h (xs ++ by x n ∷ ys) q);
 }
@@ -309,5 +310,5 @@ motionsNeeded = record {
 
     other-motion : (list t : List ℕ) (xs : List Act) (x : Axis) (n : ℕ) (ys : List Act) → Spelling list t (xs ++ by x n ∷ ys) → ⊥
     other-motion list t xs x n ys z =
-        let b : Before xs (by x n) ys = before-of xs (by x n) ys (z .all-went) in
+        let b : Before xs = before-of xs (by x n) ys (z .all-went) in
         sparing-at xs (by x n ∷ ys) start (b .reader) (b .glyphs) (b .items) (z .spared) (b .so-far) .0

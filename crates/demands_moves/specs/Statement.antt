@@ -12,10 +12,10 @@ use Rattle.rules.specs.Answers.{read, spelled, respell}
 use Rattle.laws_moves.specs.Sparing.{Kind, placed, mute, goes, shifts, turns, other, kindOf, behind}
 use Rattle.demands.specs.Statements.{SameReading, cmdsOf}
 
--- ---- which lines tell where the reader is
+-- ---- whether the place behind a line is told before it is lost
 
--- On one axis: a glyph, an `N` that is not negative, any `D`, `x X` or `x s` does; behind a motion on that axis, and for v behind a `p`,
--- nothing does; every other line is passed by, a negative `N` too: "no record, a gap".
+-- On one axis: a glyph, an `N` that is not negative, any `D`, `x X` or `x s` tells it; by a motion on that axis, and for v by a `p`, it is
+-- lost; every other line is passed by, a negative `N` too: "no record, a gap".
 abbrev pub acrossOnly : Axis → Type 0 → Type 0
 acrossOnly across rest = rest
 acrossOnly down rest = ⊥
@@ -72,7 +72,10 @@ pub record OnlyWhereItDiffers (list t : List ℕ) (xs : List Act) (x : Axis) (n 
   pub told : muteNext ys ≡ false → PlaceTold x ys
 
 pub record MotionsNeeded : Type 0 where
+  -- a spelling has single acts alone
+  pub single : (s list t : List ℕ) → respell s list ≡ spelled t → (zs : List Act) × (cmdsOf t ≡ map just zs)
+  -- each `H` and `V`
   pub each : (s list t : List ℕ) → respell s list ≡ spelled t → (xs : List Act) (x : Axis) (n : ℕ) (ys : List Act) → cmdsOf t ≡ map just (xs ++ to x n ∷ ys)
       → OnlyWhereItDiffers list t xs x n ys
-  -- no other motion stands in a spelling
+  -- and no other motion stands among them
   pub no-other : (s list t : List ℕ) → respell s list ≡ spelled t → (xs : List Act) (x : Axis) (n : ℕ) (ys : List Act) → cmdsOf t ≡ map just (xs ++ by x n ∷ ys) → ⊥
