@@ -171,7 +171,7 @@ again s list t h = first (spelt (spellWith s (widthList list)) t (read s list) h
     first p = second (sound-of s list (p .accepted)) p
 
 -- answers that say the same are the same readings
-same-reading : (a b : Answer) → isAccepted a ≡ true → isAccepted b ≡ true → seen a ≡ seen b → SameReading a b
+pub same-reading : (a b : Answer) → isAccepted a ≡ true → isAccepted b ≡ true → seen a ≡ seen b → SameReading a b
 same-reading (refuse n at) b h k e = no h
 same-reading (answer rs xs d) (refuse n at) h k e = no k
 same-reading (answer rs xs d) (answer rs′ xs′ d′) h k e = record {
