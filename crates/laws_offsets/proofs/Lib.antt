@@ -1,2 +1,4 @@
 pub mod Numbers
 pub mod Stream
+pub mod Lines
+pub mod Widths
