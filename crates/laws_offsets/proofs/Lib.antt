@@ -2,3 +2,5 @@ pub mod Numbers
 pub mod Stream
 pub mod Lines
 pub mod Widths
+pub mod Query
+pub mod Offsets

@@ -67,7 +67,7 @@ module _ (pre : List ℕ) (w : Widths) (d : Due) (h : ReadTo pre w d) where
       let x : WrongAt pre (length pre) = missing refl t v l (rw (at-line (length (pre ++ (t ++ 10 ∷ []))) t [] (is-line t l), e)) in
       rw append-nil at (offset [] (rw append-nil x))
 
-abbrev Claim : List ℕ → WidthList → Type 0
+abbrev pub Claim : List ℕ → WidthList → Type 0
 Claim list (unsound at) = ListOffset list at
 Claim list (sound w) = Unit {0}
 

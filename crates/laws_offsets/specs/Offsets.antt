@@ -1,0 +1,51 @@
+-- Document 01, "Refusal numbers and their order": which numbers each routine refuses with, and where each of them points. The proofs
+-- stand in `proofs/`.
+use Prim.Native.Nat.{ℕ, _≤_}
+use mathlib.Core.List.{List}
+use mathlib.Core.Path.{_≡_}
+use lib.Dec.{eqb}
+use lib.ListN.{length}
+use Rattle.rules.specs.declared.Judging.the-variants as J
+use Rattle.rules.specs.Bytes.{if_then_else_}
+use Rattle.rules.specs.Widths.{Widths, sound, widthList}
+use Rattle.rules.specs.Record.{refuse}
+use Rattle.rules.specs.Answers.{read, readInto, notSpelled, respell, respellInto, notFound, find, findInto, judge}
+use Rattle.laws_offsets.specs.Stream.{StreamOffset}
+use Rattle.laws_offsets.specs.Lists.{ListOffset, QueryOffset}
+
+-- Numbers and offsets of the reader, room aside: 1 at 0; 2 in the width list; 3 to 11 in the stream, read with a sound list.
+pub data ReadOffset (s list : List ℕ) : ℕ → ℕ → Type 0 where
+  too-long : ReadOffset s list 1 0
+  in-list : (at : ℕ) → ListOffset list at → ReadOffset s list 2 at
+  in-stream : (n at : ℕ) (w : Widths) → widthList list ≡ sound w → StreamOffset w s n at → ReadOffset s list n at
+
+-- of the finder: 12 in the query too
+pub data FindOffset (s list q : List ℕ) : ℕ → ℕ → Type 0 where
+  as-read : (n at : ℕ) → ReadOffset s list n at → FindOffset s list q n at
+  in-query : (at : ℕ) → QueryOffset q at → FindOffset s list q 12 at
+
+-- "need more room than lent": 13 at 0 too
+pub data OrRoom (P : ℕ → ℕ → Type 0) : ℕ → ℕ → Type 0 where
+  room-aside : (n at : ℕ) → P n at → OrRoom P n at
+  no-room : OrRoom P 13 0
+
+pub record Offsets : Type 0 where
+  pub reads : (s list : List ℕ) (n at : ℕ) → read s list ≡ refuse n at → ReadOffset s list n at
+  pub reader : (records entries : ℕ) (s list : List ℕ) (n at : ℕ) → readInto records entries s list ≡ refuse n at → OrRoom (ReadOffset s list) n at
+  pub respells : (s list : List ℕ) (n at : ℕ) → respell s list ≡ notSpelled n at → OrRoom (ReadOffset s list) n at
+  pub rewriter : (room : ℕ) (s list : List ℕ) (n at : ℕ) → respellInto room s list ≡ notSpelled n at → OrRoom (ReadOffset s list) n at
+  pub finds : (s list q : List ℕ) (n at : ℕ) → find s list q ≡ notFound n at → FindOffset s list q n at
+  pub finder : (records hits : ℕ) (s list q : List ℕ) (n at : ℕ) → findInto records hits s list q ≡ notFound n at → OrRoom (FindOffset s list q) n at
+  pub judges : (s list : List ℕ) (n at : ℕ) → judge s list ≡ J.Refused n at → ReadOffset s list n at
+
+-- ---- every offset lies in its input: at most its length
+
+-- the input that a refusal's offset is a place of
+abbrev pub inputOf : ℕ → List ℕ → List ℕ → List ℕ → List ℕ
+inputOf n s list q = if eqb n 2 then list else if eqb n 12 then q else s
+
+pub record Inside : Type 0 where
+  pub reader : (records entries : ℕ) (s list : List ℕ) (n at : ℕ) → readInto records entries s list ≡ refuse n at → at ≤ length (if eqb n 2 then list else s)
+  pub rewriter : (room : ℕ) (s list : List ℕ) (n at : ℕ) → respellInto room s list ≡ notSpelled n at → at ≤ length (if eqb n 2 then list else s)
+  pub finder : (records hits : ℕ) (s list q : List ℕ) (n at : ℕ) → findInto records hits s list q ≡ notFound n at → at ≤ length (inputOf n s list q)
+  pub judge : (s list : List ℕ) (n at : ℕ) → judge s list ≡ J.Refused n at → at ≤ length (if eqb n 2 then list else s)
