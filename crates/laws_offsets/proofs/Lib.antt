@@ -4,3 +4,4 @@ pub mod Lines
 pub mod Widths
 pub mod Query
 pub mod Offsets
+pub mod ByNumber

@@ -1,14 +1,12 @@
 -- Every refusal's number is one of the table's, and its offset is what the table says of that number.
-use Prim.Native.Nat.{ℕ, suc, _+_, _<_, _≤_}
-use native.Mathlib.Omega.{arith}
-use mathlib.Core.Bool.{true, false, _||_}
-use mathlib.Core.List.{List, [], _∷_}
-use mathlib.Core.Path.{_≡_, refl, sym, ap, subst}
-use lib.Dec.{ltb, eqb}
+use Prim.Native.Nat.{ℕ}
+use mathlib.Core.Bool.{_||_}
+use mathlib.Core.List.{List}
+use mathlib.Core.Path.{_≡_, refl, subst}
+use lib.Dec.{ltb}
 use lib.ListN.{length}
 use Rattle.rules.specs.declared.Judging.{Judging}
 use Rattle.rules.specs.declared.Judging.the-variants as J
-use Rattle.rules.specs.Bytes.{if_then_else_}
 use Rattle.rules.specs.Scan.{commands}
 use Rattle.rules.specs.Widths.{Widths, WidthList, unsound, sound, widthList}
 use Rattle.rules.specs.State.{start}
@@ -16,9 +14,7 @@ use Rattle.rules.specs.Record.{Answer, refuse, answer, follow}
 use Rattle.rules.specs.Find.{Wanted, Query, illFormed, wellFormed, query}
 use Rattle.rules.specs.Answers.{streamMost, isOver, readWith, read, roomFor, readInto, Spelling, notSpelled, spelled, spellIf, spellWith, respell, spellingIn, respellInto, Found, notFound, found, hitsIn, findAsked, findWith, find, foundIn, findInto, judgingOf, judge}
 use Rattle.laws.proofs.Cases.{if-both}
-use Rattle.laws_offsets.specs.Stream.{StreamOffset, at-command, at-end}
-use Rattle.laws_offsets.specs.Lists.{LineStart, first-line, behind-newline, ListOffset, QueryOffset}
-use Rattle.laws_offsets.specs.Offsets.{ReadOffset, too-long, in-list, in-stream, FindOffset, as-read, in-query, OrRoom, room-aside, no-room, Offsets, inputOf, Inside}
+use Rattle.laws_offsets.specs.Offsets.{ReadOffset, too-long, in-list, in-stream, FindOffset, as-read, in-query, OrRoom, room-aside, no-room, Offsets}
 use Rattle.laws_offsets.proofs.Stream as P
 use Rattle.laws_offsets.proofs.Widths as W
 use Rattle.laws_offsets.proofs.Query as Q

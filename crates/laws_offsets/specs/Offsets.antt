@@ -1,7 +1,7 @@
 -- Document 01, "Refusal numbers and their order": which numbers each routine refuses with, and where each of them points. The proofs
 -- stand in `proofs/`.
 use Prim.Native.Nat.{ℕ, _≤_}
-use mathlib.Core.List.{List}
+use mathlib.Core.List.{List, []}
 use mathlib.Core.Path.{_≡_}
 use lib.Dec.{eqb}
 use lib.ListN.{length}
@@ -10,7 +10,7 @@ use Rattle.rules.specs.Bytes.{if_then_else_}
 use Rattle.rules.specs.Widths.{Widths, sound, widthList}
 use Rattle.rules.specs.Record.{refuse}
 use Rattle.rules.specs.Answers.{read, readInto, notSpelled, respell, respellInto, notFound, find, findInto, judge}
-use Rattle.laws_offsets.specs.Stream.{StreamOffset}
+use Rattle.laws_offsets.specs.Stream.{FirstByte, StreamOffset}
 use Rattle.laws_offsets.specs.Lists.{ListOffset, QueryOffset}
 
 -- Numbers and offsets of the reader, room aside: 1 at 0; 2 in the width list; 3 to 11 in the stream, read with a sound list.
@@ -38,14 +38,24 @@ pub record Offsets : Type 0 where
   pub finder : (records hits : ℕ) (s list q : List ℕ) (n at : ℕ) → findInto records hits s list q ≡ notFound n at → OrRoom (FindOffset s list q) n at
   pub judges : (s list : List ℕ) (n at : ℕ) → judge s list ≡ J.Refused n at → ReadOffset s list n at
 
--- ---- every offset lies in its input: at most its length
+-- ---- the same by numbers, and: every offset lies in its input, at most its length
 
 -- the input that a refusal's offset is a place of
 abbrev pub inputOf : ℕ → List ℕ → List ℕ → List ℕ → List ℕ
 inputOf n s list q = if eqb n 2 then list else if eqb n 12 then q else s
 
-pub record Inside : Type 0 where
-  pub reader : (records entries : ℕ) (s list : List ℕ) (n at : ℕ) → readInto records entries s list ≡ refuse n at → at ≤ length (if eqb n 2 then list else s)
-  pub rewriter : (room : ℕ) (s list : List ℕ) (n at : ℕ) → respellInto room s list ≡ notSpelled n at → at ≤ length (if eqb n 2 then list else s)
-  pub finder : (records hits : ℕ) (s list q : List ℕ) (n at : ℕ) → findInto records hits s list q ≡ notFound n at → at ≤ length (inputOf n s list q)
-  pub judge : (s list : List ℕ) (n at : ℕ) → judge s list ≡ J.Refused n at → at ≤ length (if eqb n 2 then list else s)
+pub record Said (s list q : List ℕ) (n at : ℕ) : Type 0 where
+  pub number : (1 ≤ n) × (n ≤ 13)
+  pub of-1 : n ≡ 1 → at ≡ 0
+  pub of-2 : n ≡ 2 → ListOffset list at
+  pub of-3-to-10 : 3 ≤ n → n ≤ 10 → FirstByte s at
+  pub of-11 : n ≡ 11 → at ≡ length s
+  pub of-12 : n ≡ 12 → QueryOffset q at
+  pub of-13 : n ≡ 13 → at ≡ 0
+  pub inside : at ≤ length (inputOf n s list q)
+
+pub record ByNumber : Type 0 where
+  pub reader : (records entries : ℕ) (s list : List ℕ) (n at : ℕ) → readInto records entries s list ≡ refuse n at → Said s list [] n at × (n ≡ 12 → ⊥)
+  pub rewriter : (room : ℕ) (s list : List ℕ) (n at : ℕ) → respellInto room s list ≡ notSpelled n at → Said s list [] n at × (n ≡ 12 → ⊥)
+  pub finder : (records hits : ℕ) (s list q : List ℕ) (n at : ℕ) → findInto records hits s list q ≡ notFound n at → Said s list q n at
+  pub judge : (s list : List ℕ) (n at : ℕ) → judge s list ≡ J.Refused n at → Said s list [] n at × (n ≤ 11)
