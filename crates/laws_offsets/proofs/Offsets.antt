@@ -52,7 +52,7 @@ module _ (s list : List ℕ) where
 
   read-in : AnswerIn (ReadOffset s list) (read s list)
   unfolding read
-  read-in = if-both (AnswerIn (ReadOffset s list)) (isOver streamMost s || isOver 65_536 list) (refuse 1 0) _ too-long (list-in (widthList list) refl (W.list-claim list))
+  read-in = if-both (AnswerIn (ReadOffset s list)) (isOver streamMost s || isOver 65_536 list) _ _ too-long (list-in (widthList list) refl (W.list-claim list))
 
   into-in : (records entries : ℕ) → AnswerIn (OrRoom (ReadOffset s list)) (readInto records entries s list)
   unfolding readInto
@@ -60,7 +60,7 @@ module _ (s list : List ℕ) where
     where
       go : (x : Answer) → AnswerIn (ReadOffset s list) x → AnswerIn (OrRoom (ReadOffset s list)) (roomFor records entries x)
       go (refuse n at) h = room-aside n at h
-      go (answer rs xs e) h = if-both (AnswerIn (OrRoom (ReadOffset s list))) (ltb records (length rs) || ltb entries (length xs)) (refuse 13 0) (answer rs xs e) no-room tt
+      go (answer rs xs e) h = if-both (AnswerIn (OrRoom (ReadOffset s list))) (ltb records (length rs) || ltb entries (length xs)) _ _ no-room tt
 
   judge-in : JudgingIn (ReadOffset s list) (judge s list)
   unfolding judge
@@ -78,7 +78,7 @@ module _ (s list : List ℕ) where
     where
       go : (t : List ℕ) (x : Answer) → AnswerIn (ReadOffset s list) x → SpellingIn (OrRoom (ReadOffset s list)) (spellIf t x)
       go t (refuse n at) h = room-aside n at h
-      go t (answer rs xs e) h = if-both (SpellingIn (OrRoom (ReadOffset s list))) (isOver streamMost t) (notSpelled 13 0) (spelled t) no-room tt
+      go t (answer rs xs e) h = if-both (SpellingIn (OrRoom (ReadOffset s list))) (isOver streamMost t) _ _ no-room tt
 
   spell-into-in : (room : ℕ) → SpellingIn (OrRoom (ReadOffset s list)) (respellInto room s list)
   unfolding respellInto
@@ -86,7 +86,7 @@ module _ (s list : List ℕ) where
     where
       go : (x : Spelling) → SpellingIn (OrRoom (ReadOffset s list)) x → SpellingIn (OrRoom (ReadOffset s list)) (spellingIn room x)
       go (notSpelled n at) h = h
-      go (spelled t) h = if-both (SpellingIn (OrRoom (ReadOffset s list))) (isOver room t) (notSpelled 13 0) (spelled t) no-room tt
+      go (spelled t) h = if-both (SpellingIn (OrRoom (ReadOffset s list))) (isOver room t) _ _ no-room tt
 
   -- ---- the finder
 
@@ -106,7 +106,7 @@ module _ (s list : List ℕ) where
     find-in : FoundIn (FindOffset s list q) (find s list q)
     unfolding find
     find-in =
-        if-both (FoundIn (FindOffset s list q)) (isOver streamMost s || (isOver 65_536 list || isOver 8_192 q)) (notFound 1 0) _ (as-read 1 0 too-long)
+        if-both (FoundIn (FindOffset s list q)) (isOver streamMost s || (isOver 65_536 list || isOver 8_192 q)) _ _ (as-read 1 0 too-long)
         (with-in (widthList list) refl (W.list-claim list))
 
     find-into-in : (records hits : ℕ) → FoundIn (OrRoom (FindOffset s list q)) (findInto records hits s list q)
@@ -115,7 +115,7 @@ module _ (s list : List ℕ) where
       where
         go : (x : Found) → FoundIn (FindOffset s list q) x → FoundIn (OrRoom (FindOffset s list q)) (foundIn records hits x)
         go (notFound n at) h = room-aside n at h
-        go (found rs xs) h = if-both (FoundIn (OrRoom (FindOffset s list q))) (ltb records (length rs) || ltb hits (length xs)) (notFound 13 0) (found rs xs) no-room tt
+        go (found rs xs) h = if-both (FoundIn (OrRoom (FindOffset s list q))) (ltb records (length rs) || ltb hits (length xs)) _ _ no-room tt
 
 pub offsets : Offsets
 offsets = record {

@@ -72,7 +72,7 @@ module _ (w : Widths) (s : List ℕ) where
   stream-points [] at k e d m l h =
       let z : at ≡ length s = omega (arith, sym (length-drop at s) ∙ ap length d) in
       let y : at + k ≡ length s = omega arith in
-      if-on Points (stopped e) (answer [] [] e) (refuse 11 at) (λ q. tt) (λ q. rw z (at-end e (rw y at h) q))
+      if-on Points (stopped e) _ _ (λ q. tt) (λ q. rw z (at-end e (rw y at h) q))
   stream-points (b ∷ r) at (suc k) e d m l h =
       let z : at + suc k ≡ at + 1 + k = omega arith in
       stream-points r (at + 1) k e (sym (drop-drop 1 at s) ∙ ap (drop 1) d) (omega (arith, sym (length-drop at s) ∙ ap length d)) (omega arith) (rw z at h)

@@ -22,17 +22,20 @@ record ReadTo (pre : List ℕ) (w : Widths) (d : Due) : Type 0 where
   on : (n : ℕ) (m : List ℕ) → linesSay n noWidths unitDue (linesFrom 0 (pre ++ m)) ≡ linesSay n w d (linesFrom (length pre) m)
   start : (m : List ℕ) → LineStart (pre ++ m) (length pre)
 
--- what stands behind pre, up to the end of t's line
 module _ (pre : List ℕ) (w : Widths) (d : Due) (h : ReadTo pre w d) where
-  -- a line of the text t
-  at-line : (n : ℕ) (t m : List ℕ) → OneLine t → linesSay n noWidths unitDue (linesFrom 0 (pre ++ (t ++ 10 ∷ m)))
-      ≡ lineOn (length pre) (λ d′ w′. linesSay n w′ d′ (linesFrom (length pre + length t + 1) m)) (lineSays w t d)
+  -- a line of the text t that is right, and one that is wrong
+  right-so : (n : ℕ) (t m : List ℕ) (d′ : Due) (w′ : Widths) → OneLine t → lineSays w t d ≡ rightLine d′ w′
+      → linesSay n noWidths unitDue (linesFrom 0 (pre ++ (t ++ 10 ∷ m))) ≡ linesSay n w′ d′ (linesFrom (length pre + length t + 1) m)
   unfolding linesSay
-  at-line n t m k = h .on n (t ++ 10 ∷ m) ∙ rw (line-front t (length pre) m k)
+  right-so n t m d′ w′ k e = h .on n (t ++ 10 ∷ m) ∙ rw (line-front t (length pre) m k, e)
+
+  wrong-so : (t m : List ℕ) → OneLine t → lineSays w t d ≡ wrongLine → widthList (pre ++ (t ++ 10 ∷ m)) ≡ unsound (length pre)
+  unfolding widthList linesSay
+  wrong-so t m k e = h .on (length (pre ++ (t ++ 10 ∷ m))) (t ++ 10 ∷ m) ∙ rw (line-front t (length pre) m k, e)
 
   next-line : (t : List ℕ) (d′ : Due) (w′ : Widths) → OneLine t → lineSays w t d ≡ rightLine d′ w′ → ReadTo (longer pre t) w′ d′
   next-line t d′ w′ k e = record {
-    on = λ n m. rw (longer-on pre t m, at-line n t m k, e, longer-length pre t);
+    on = λ n m. rw (longer-on pre t m, right-so n t m d′ w′ k e, longer-length pre t);
     start = λ m. longer-start pre t m;
   }
 
@@ -56,15 +59,14 @@ module _ (pre : List ℕ) (w : Widths) (d : Due) (h : ReadTo pre w d) where
   open-offset b t k = offset (b ∷ t) (unended (open-inside pre b t) (open-end pre b t k))
 
   wrong-offset : (t m : List ℕ) → OneLine t → lineSays w t d ≡ wrongLine → ListOffset (pre ++ (t ++ 10 ∷ m)) (length pre)
-  unfolding widthList
   wrong-offset t m k e = offset (t ++ 10 ∷ m) (wrong-line (line-inside pre t m k)
-      (λ m′. rw (line-taken pre t m k, longer-on pre t m′, at-line (length (pre ++ (t ++ 10 ∷ m′))) t m′ k, e)))
+      (λ m′. rw (line-taken pre t m k, longer-on pre t m′) (wrong-so t m′ k e)))
 
   -- a line is missing: with one more it would be sound
   end-offset : (t : List ℕ) (v : Widths) → oneLine t ≡ length t → lineSays w t d ≡ rightLine blockDue v → ListOffset pre (length pre)
   unfolding widthList linesFrom linesSay
   end-offset t v l e =
-      let x : WrongAt pre (length pre) = missing refl t v l (rw (at-line (length (pre ++ (t ++ 10 ∷ []))) t [] (is-line t l), e)) in
+      let x : WrongAt pre (length pre) = missing refl t v l (rw (right-so (length (pre ++ (t ++ 10 ∷ []))) t [] blockDue v (is-line t l) e)) in
       rw append-nil at (offset [] (rw append-nil x))
 
 abbrev pub Claim : List ℕ → WidthList → Type 0
