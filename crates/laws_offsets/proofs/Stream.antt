@@ -13,10 +13,14 @@ use Rattle.rules.specs.Scan.{got, bad, Scan, command, Cmds, done, wrong, next, 
 use Rattle.rules.specs.Widths.{Widths}
 use Rattle.rules.specs.State.{Env, start, Glyph, Item, Step, refused, went, acts, perform, stopped}
 use Rattle.rules.specs.Record.{GlyphRow, ItemRow, Answer, refuse, answer, afterRows, glyphRows, itemRows, goOn, follow}
-use Rattle.laws.proofs.Cases.{if-on, on}
+use Rattle.laws.proofs.Cases.{if-on, no}
 use Rattle.laws_scan.proofs.Bounds.{span-le, command-within}
 use Rattle.laws_offsets.specs.Stream.{byteAt, behindAt, commandAt, Between, at-start, behind-white, behind-comment, behind-command, FirstByte, ReadTo, from-start, past-white, past-comment, past-command, Fault, as-written, as-done, behind-stop, AtFault, StreamOffset, at-command, at-end}
-use Rattle.laws_offsets.proofs.Numbers.{ScanIn, command-in, StepIn, step-in}
+use Rattle.laws_offsets.proofs.Numbers.{ScanIn, command-in, StepIn, step-in, stopped-7}
+
+abbrev numberOf : Step → ℕ
+numberOf (refused n) = n
+numberOf (went e gs xs) = 0
 
 module _ (w : Widths) (s : List ℕ) where
   -- where commands have been read up to, none is under way
@@ -41,14 +45,14 @@ module _ (w : Widths) (s : List ℕ) where
     bad-points n k p =
         let g : ScanIn (bad n k) = rw p at (command-in (byteAt s at) (behindAt s at)) in
         if-on (λ m. StreamOffset w s m at) (stopped e) 7 n
-        (λ q. at-command 7 at (record { first = f; env = e; read-to = h; fault = behind-stop n k p q }))
-        (λ q. at-command n at (record { first = f; env = e; read-to = h; fault = as-written n k p q (g .0) (g .1) }))
+        (λ q. at-command 7 at (record { first = f; env = e; read-to = h; fault = behind-stop n k p q; after-stop = λ x. refl }))
+        (λ q. at-command n at (record { first = f; env = e; read-to = h; fault = as-written n k p q (g .0) (g .1); after-stop = λ x. no (sym q ∙ x) }))
 
     done-points : (c : Cmd) (a l : ℕ) (more : Env → Answer) (x : Step) → commandAt s at ≡ got c a l → perform e (acts w e c) ≡ x
         → ((d : Env) → ReadTo w s (at + l) d → Points (more d)) → Points (goOn at (at + a) l more x)
     done-points c a l more (refused n) p q go =
         let g : StepIn (refused n) = rw q at (step-in w e c) in
-        at-command n at (record { first = f; env = e; read-to = h; fault = as-done n c a l p q (g .0) (g .1) })
+        at-command n at (record { first = f; env = e; read-to = h; fault = as-done n c a l p q (g .0) (g .1); after-stop = λ x. ap numberOf (sym q ∙ stopped-7 e x w c) })
     done-points c a l more (went d gs xs) p q go =
         after-points (glyphRows (at + a) gs) (itemRows at l xs) (more d) (go d (past-command at e d c a l gs xs h p q))
 

@@ -58,6 +58,8 @@ pub record AtFault (w : Widths) (s : List ℕ) (n at : ℕ) : Type 0 where
   pub env : Env
   pub read-to : ReadTo w s at env
   pub fault : Fault w s at env n
+  -- "nothing else is judged there"
+  pub after-stop : stopped env ≡ true → n ≡ 7
 
 -- What a refusal of a stream points at: 3 to 10 at the command at fault; "no `x s`; offset is the length" is 11.
 pub data StreamOffset (w : Widths) (s : List ℕ) : ℕ → ℕ → Type 0 where
