@@ -9,9 +9,9 @@ use lib.Dec.{eqb}
 use lib.ListN.{length}
 use Rattle.rules.specs.Widths.{Widths}
 use Rattle.rules.specs.State.{Env}
-use Rattle.laws_offsets.specs.Stream.{FirstByte, Fault, as-written, as-done, behind-stop, AtFault, StreamOffset, at-command, at-end}
+use Rattle.laws_offsets.specs.Stream.{FirstByte, Fault, as-written, as-done, behind-stop, StreamOffset, at-command, at-end}
 use Rattle.laws_offsets.specs.Lists.{LineStart, first-line, behind-newline, ListOffset, QueryOffset}
-use Rattle.laws_offsets.specs.Offsets.{ReadOffset, too-long, in-list, in-stream, FindOffset, as-read, in-query, OrRoom, room-aside, no-room, inputOf, Said, ByNumber}
+use Rattle.laws_offsets.specs.Offsets.{ReadOffset, too-long, in-list, in-stream, FindOffset, as-read, in-query, OrRoom, room-aside, no-room, Said, ByNumber}
 use Rattle.laws_offsets.proofs.Offsets.{offsets}
 
 -- of a stream: 3 to 10 at a first byte, or 11 at the end
@@ -33,19 +33,20 @@ of-stream w s _ _ (at-command n at f) =
 of-stream w s _ _ (at-end e h p) =
     record { number = (omega arith, omega arith); first = λ k. absurd (omega arith); end = λ k. refl; inside = omega arith }
 
-line-inside : (t : List ℕ) (at : ℕ) → LineStart t at → at ≤ length t
+pub line-inside : (t : List ℕ) (at : ℕ) → LineStart t at → at ≤ length t
 line-inside t _ first-line = omega arith
 line-inside t _ (behind-newline at h e) = omega arith
 
 module _ (s list q : List ℕ) where
-  too-long-said : Said s list q 1 0
-  too-long-said = record {
-    number = (omega arith, omega arith);
+  -- 1 and 13, which point at no place
+  zero-said : (n : ℕ) → 1 ≤ n → n ≤ 13 → (n ≡ 2 → ⊥) → (3 ≤ n → n ≤ 12 → ⊥) → Said s list q n 0
+  zero-said n lo hi no-2 no-3 = record {
+    number = (lo, hi);
     of-1 = λ h. refl;
-    of-2 = λ h. absurd (omega arith);
-    of-3-to-10 = λ h k. absurd (omega arith);
-    of-11 = λ h. absurd (omega arith);
-    of-12 = λ h. absurd (omega arith);
+    of-2 = λ h. absurd (no-2 h);
+    of-3-to-10 = λ h k. absurd (no-3 h (omega arith));
+    of-11 = λ h. absurd (no-3 (omega arith) (omega arith));
+    of-12 = λ h. absurd (no-3 (omega arith) (omega arith));
     of-13 = λ h. refl;
     inside = omega arith;
   }
@@ -90,20 +91,8 @@ module _ (s list q : List ℕ) where
     inside = line-inside q at (o .line);
   }
 
-  room-said : Said s list q 13 0
-  room-said = record {
-    number = (omega arith, omega arith);
-    of-1 = λ h. refl;
-    of-2 = λ h. absurd (omega arith);
-    of-3-to-10 = λ h k. absurd (omega arith);
-    of-11 = λ h. absurd (omega arith);
-    of-12 = λ h. absurd (omega arith);
-    of-13 = λ h. refl;
-    inside = omega arith;
-  }
-
   read-said : (n at : ℕ) → ReadOffset s list n at → Said s list q n at
-  read-said _ _ too-long = too-long-said
+  read-said _ _ too-long = zero-said 1 (omega arith) (omega arith) (λ h. omega arith) (λ h k. omega arith)
   read-said _ _ (in-list at o) = list-said at o
   read-said _ _ (in-stream n at w e o) = stream-said n at (of-stream w s n at o)
 
@@ -113,7 +102,7 @@ module _ (s list q : List ℕ) where
 
   either-said : (P : ℕ → ℕ → Type 0) → ((n at : ℕ) → P n at → Said s list q n at) → (n at : ℕ) → OrRoom P n at → Said s list q n at
   either-said P f _ _ (room-aside n at o) = f n at o
-  either-said P f _ _ no-room = room-said
+  either-said P f _ _ no-room = zero-said 13 (omega arith) (omega arith) (λ h. omega arith) (λ h k. omega arith)
 
 -- the numbers alone: the reader's, never with 12; the finder's
 pub read-number : (s list : List ℕ) (n at : ℕ) → ReadOffset s list n at → (1 ≤ n) × (n ≤ 11)

@@ -5,3 +5,4 @@ pub mod Widths
 pub mod Query
 pub mod Offsets
 pub mod ByNumber
+pub mod Exactly

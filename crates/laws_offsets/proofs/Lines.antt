@@ -1,18 +1,17 @@
 -- A text as its lines, and where its lines start.
-use Prim.Native.Nat.{ℕ, zero, suc, _+_, _<_}
+use Prim.Native.Nat.{ℕ, suc, _+_, _<_}
 use native.Mathlib.Omega.{arith}
-use mathlib.Core.Bool.{true, false}
+use mathlib.Core.Bool.{false}
 use mathlib.Core.List.{List, [], _∷_, _++_, append-assoc, append-nil}
 use mathlib.Core.Path.{_≡_, refl, sym, ap, _∙_}
 use borrow.Author.Tests.{eqb-true}
-use lib.ListN.{length, take, drop, length-append}
+use lib.ListN.{length, take, length-append}
 use lib.Seq.{getD-append-seam}
 use Rattle.rules.specs.Bytes.{is, isNotNewline, span, oneLine}
 use Rattle.rules.specs.Widths.{linesFrom}
 use Rattle.laws.proofs.Cases.{on, All, Stops, span-all, take-front, drop-front}
 use Rattle.laws_find.proofs.Written.{OneLine}
-use Rattle.laws_offsets.specs.Stream.{byteAt}
-use Rattle.laws_offsets.specs.Lists.{LineStart, first-line, behind-newline, lineEnd}
+use Rattle.laws_offsets.specs.Lists.{LineStart, behind-newline, lineEnd}
 
 -- no line; a last one without a newline; a line and those behind it
 pub data Lines : List ℕ → Type 0 where

@@ -1,5 +1,5 @@
 -- The numbers of a stream's refusals: 3 to 6 as a command is written, 7 to 10 by what it does, 7 behind `x s`.
-use Prim.Native.Nat.{ℕ, suc, _+_, _*_, _-_, _≤_}
+use Prim.Native.Nat.{ℕ, _+_, _*_, _-_, _≤_}
 use native.Mathlib.Omega.{arith}
 use mathlib.Core.Bool.{true, false}
 use mathlib.Core.List.{List, [], _∷_, _++_, map}

@@ -1,19 +1,18 @@
 -- Refusal 12 points at the start of the query's first wrong line: a last gap line is that line, and an empty query has its offset 0.
-use Prim.Native.Nat.{ℕ, zero, suc, _+_}
-use native.Mathlib.Omega.{arith}
-use mathlib.Core.Bool.{Bool, true, false, _&&_}
+use Prim.Native.Nat.{ℕ, _+_}
+use mathlib.Core.Bool.{true}
 use mathlib.Core.List.{List, [], _∷_, _++_, append-nil, append-assoc}
 use mathlib.Core.Option.{Option, none, some}
 use mathlib.Core.Path.{_≡_, refl, sym, ap, _∙_}
-use lib.ListN.{length, take, drop}
+use lib.ListN.{length, take}
 use Rattle.rules.specs.Bytes.{bytes, same}
 use Rattle.rules.specs.Widths.{linesFrom, behind}
-use Rattle.rules.specs.Find.{Gap, Wanted, Expected, firstGlyph, gapGlyph, either, Query, illFormed, wellFormed, queryEnds, withWanted, gapOf, mayPart, mayAsk, queryLine, queryLines, query}
+use Rattle.rules.specs.Find.{Gap, Wanted, Expected, firstGlyph, gapGlyph, either, Query, illFormed, wellFormed, queryEnds, withWanted, gapOf, mayAsk, queryLine, queryLines, query}
 use Rattle.laws.proofs.Cases.{if-on, take-front, drop-front}
 use Rattle.laws_find.specs.Written.{gapLine}
 use Rattle.laws_find.proofs.Exact.{same-eq}
 use Rattle.laws_find.proofs.Written.{OneLine, line-front}
-use Rattle.laws_offsets.specs.Lists.{LineStart, first-line, lineEnd, AskedTo, nothing, glyphs, gap-behind, AskedWrongAt, empty, unended-line, wrong-asked, last-gap, QueryOffset}
+use Rattle.laws_offsets.specs.Lists.{LineStart, first-line, AskedTo, nothing, glyphs, gap-behind, AskedWrongAt, empty, unended-line, wrong-asked, last-gap, QueryOffset}
 use Rattle.laws_offsets.proofs.Lines.{Lines, no-line, open-line, one-more, lines, open-front, longer, longer-on, longer-length, longer-start, line-inside, line-taken, open-inside, open-end}
 
 -- glyphs in front of what a query asks for
@@ -37,6 +36,7 @@ record Parted (pre : List ℕ) (p : ℕ) : Type 0 where
   place : p ≡ length front
   fine : query front ≡ wellFormed asked
   start : LineStart (front ++ gapLine) (length front)
+  empty-next : (m : List ℕ) → query (front ++ 10 ∷ m) ≡ illFormed (length front)
 
 -- up to the gap line
 front-taken : (pre post : List ℕ) (p : ℕ) (b : Parted pre p) → take (length (b .front)) (pre ++ post) ≡ b .front
@@ -76,16 +76,30 @@ module _ (pre : List ℕ) (n : ℕ) (x : Expected) (h : ReadTo pre n x) where
       go (gapGlyph p) b e = gap-behind (length (b .front)) (b .asked) (rw (front-taken pre post p b) (b .fine)) (rw (take-front pre post, front-taken pre post p b) (b .whole))
       go either b e = glyphs (h .ws ++ []) (rw (take-front pre post) e)
 
+  -- a line of the text t is wrong
+  wrong-so : (t m : List ℕ) → OneLine t → ((go : ℕ → Expected → Query) → queryLine n x (length pre) t go (behind (bytes "glyph=") t) ≡ illFormed (length pre))
+      → query (pre ++ (t ++ 10 ∷ m)) ≡ illFormed (length pre)
+  wrong-so t m k e = rw (at-line t m k, e (λ j y. queryLines j y (linesFrom (length pre + length t + 1) m)))
+
+  empty-wrong : (m : List ℕ) → query (pre ++ 10 ∷ m) ≡ illFormed (length pre)
+  unfolding behind same
+  empty-wrong m = wrong-so [] m tt (go x)
+    where
+      go : (y : Expected) (f : ℕ → Expected → Query) → queryLine n y (length pre) [] f none ≡ illFormed (length pre)
+      go firstGlyph f = refl
+      go (gapGlyph p) f = refl
+      go either f = refl
+
   -- the first line behind pre is wrong
   offset : (post : List ℕ) → AskedWrongAt (pre ++ post) (length pre) → QueryOffset (pre ++ post) (length pre)
-  offset post e = record { line = h .start post; before = asked-to post; here = e }
+  offset post e = record { line = h .start post; before = asked-to post; first = λ m. rw (take-front pre post) (empty-wrong m); here = e }
 
   open-offset : (b : ℕ) (t : List ℕ) → OneLine (b ∷ t) → QueryOffset (pre ++ b ∷ t) (length pre)
   open-offset b t k = offset (b ∷ t) (unended-line (open-inside pre b t) (open-end pre b t k))
 
   wrong-offset : (t m : List ℕ) → OneLine t → ((go : ℕ → Expected → Query) → queryLine n x (length pre) t go (behind (bytes "glyph=") t) ≡ illFormed (length pre)) → QueryOffset (pre ++ (t ++ 10 ∷ m)) (length pre)
   wrong-offset t m k e = offset (t ++ 10 ∷ m) (wrong-asked (line-inside pre t m k)
-      (λ m′. rw (line-taken pre t m k, longer-on pre t m′, at-line t m′ k, e (λ j y. queryLines j y (linesFrom (length pre + length t + 1) m′)))))
+      (λ m′. rw (line-taken pre t m k, longer-on pre t m′) (wrong-so t m′ k e)))
 
   glyph-on : (t name : List ℕ) → OneLine t → behind (bytes "glyph=") t ≡ some name → mayAsk n name ≡ true → ReadTo (longer pre t) (n + 1) either
   glyph-on t name k e a = record {
@@ -107,6 +121,7 @@ gap-on pre n t h k e a = record {
     place = refl;
     fine = ends-so pre n either h;
     start = h .start gapLine;
+    empty-next = empty-wrong pre n either h;
   };
 }
 
@@ -124,11 +139,13 @@ gap-offset : (pre : List ℕ) (p : ℕ) → Parted pre p → QueryOffset pre p
 gap-offset pre p b = rw (b .whole, b .place) (record {
   line = b .start;
   before = glyphs (b .asked) (rw (take-front (b .front) gapLine) (b .fine));
+  first = λ m. rw (take-front (b .front) gapLine) (b .empty-next m);
   here = last-gap (drop-front (b .front) gapLine) (b .asked) (rw (take-front (b .front) gapLine) (b .fine));
 })
 
 end-claim : (pre : List ℕ) (x : Expected) → Behind pre x → Claim pre (queryEnds x)
-end-claim pre firstGlyph b = record { line = first-line; before = nothing refl; here = empty b refl }
+unfolding query queryLines linesFrom behind same
+end-claim pre firstGlyph b = record { line = first-line; before = nothing refl; first = λ m. refl; here = empty b refl }
 end-claim pre (gapGlyph p) b = gap-offset pre p b
 end-claim pre either b = tt
 

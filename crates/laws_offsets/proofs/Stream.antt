@@ -2,20 +2,19 @@
 use Prim.Native.Nat.{ℕ, zero, suc, _+_, _-_, _<_, _≤_}
 use native.Mathlib.Omega.{arith}
 use native.Mathlib.Nat.{add-zero}
-use mathlib.Core.Bool.{true, false}
 use mathlib.Core.List.{List, [], _∷_}
-use mathlib.Core.Path.{_≡_, refl, sym, ap, subst, _∙_}
+use mathlib.Core.Path.{_≡_, refl, sym, ap, _∙_}
 use lib.ListN.{length, drop, getD, length-drop}
 use lib.Seq.{drop-drop, getD-drop}
 use Rattle.rules.specs.Bytes.{if_then_else_, is, isNotNewline, isWhite, oneLine}
 use Rattle.rules.specs.Act.{Cmd}
-use Rattle.rules.specs.Scan.{got, bad, Scan, command, Cmds, done, wrong, next, oneCommand, commands}
+use Rattle.rules.specs.Scan.{got, bad, Scan, command, Cmds, oneCommand, commands}
 use Rattle.rules.specs.Widths.{Widths}
-use Rattle.rules.specs.State.{Env, start, Glyph, Item, Step, refused, went, acts, perform, stopped}
+use Rattle.rules.specs.State.{Env, start, Step, refused, went, acts, perform, stopped}
 use Rattle.rules.specs.Record.{GlyphRow, ItemRow, Answer, refuse, answer, afterRows, glyphRows, itemRows, goOn, follow}
 use Rattle.laws.proofs.Cases.{if-on, no}
 use Rattle.laws_scan.proofs.Bounds.{span-le, command-within}
-use Rattle.laws_offsets.specs.Stream.{byteAt, behindAt, commandAt, Between, at-start, behind-white, behind-comment, behind-command, FirstByte, ReadTo, from-start, past-white, past-comment, past-command, Fault, as-written, as-done, behind-stop, AtFault, StreamOffset, at-command, at-end}
+use Rattle.laws_offsets.specs.Stream.{byteAt, behindAt, commandAt, Between, at-start, behind-white, behind-comment, behind-command, FirstByte, ReadTo, from-start, past-white, past-comment, past-command, as-written, as-done, behind-stop, StreamOffset, at-command, at-end}
 use Rattle.laws_offsets.proofs.Numbers.{ScanIn, command-in, StepIn, step-in, stopped-7}
 
 abbrev numberOf : Step → ℕ

@@ -1,17 +1,14 @@
 -- Refusal 2 points at the start of the width list's first wrong line, or at its end.
-use Prim.Native.Nat.{ℕ, zero, suc, _+_, _<_}
-use native.Mathlib.Omega.{arith}
-use native.Mathlib.Nat.{add-zero}
-use mathlib.Core.Bool.{true, false}
+use Prim.Native.Nat.{ℕ, _+_}
 use mathlib.Core.List.{List, [], _∷_, _++_, append-nil}
 use mathlib.Core.Logic.{_⊎_, inl, inr}
-use mathlib.Core.Path.{_≡_, refl, sym, ap, subst, _∙_}
-use lib.ListN.{length, take, drop, length-append}
-use Rattle.rules.specs.Bytes.{bytes, is, isNotNewline, span, oneLine}
+use mathlib.Core.Path.{_≡_, refl, _∙_}
+use lib.ListN.{length}
+use Rattle.rules.specs.Bytes.{bytes, is, span, oneLine}
 use Rattle.rules.specs.Widths.{linesFrom, behind, Widths, Due, unitDue, blockDue, widthDue, LineRead, wrongLine, rightLine, lineSays, WidthList, unsound, sound, listEnds, lineOn, linesSay, widthList}
-use Rattle.laws.proofs.Cases.{take-front, drop-front}
+use Rattle.laws.proofs.Cases.{take-front}
 use Rattle.laws_find.proofs.Written.{OneLine, line-front}
-use Rattle.laws_offsets.specs.Lists.{LineStart, first-line, lineEnd, RightTo, WrongAt, unended, wrong-line, missing, ListOffset}
+use Rattle.laws_offsets.specs.Lists.{LineStart, first-line, RightTo, WrongAt, unended, wrong-line, missing, ListOffset}
 use Rattle.laws_offsets.proofs.Lines.{Lines, no-line, open-line, one-more, lines, open-front, is-line, longer, longer-on, longer-length, longer-start, line-inside, line-taken, open-inside, open-end}
 
 abbrev noWidths : Widths
@@ -51,9 +48,15 @@ module _ (pre : List ℕ) (w : Widths) (d : Due) (h : ReadTo pre w d) where
       go blockDue e = inl (w, e)
       go (widthDue b) e = inr e
 
+  empty-wrong : (x : Due) → lineSays w [] x ≡ wrongLine
+  unfolding behind
+  empty-wrong unitDue = refl
+  empty-wrong blockDue = refl
+  empty-wrong (widthDue b) = refl
+
   -- the first line behind pre is wrong
   offset : (post : List ℕ) → WrongAt (pre ++ post) (length pre) → ListOffset (pre ++ post) (length pre)
-  offset post e = record { line = h .start post; before = right-to post; here = e }
+  offset post e = record { line = h .start post; before = right-to post; first = λ m. rw (take-front pre post) (wrong-so [] m tt (empty-wrong d)); here = e }
 
   open-offset : (b : ℕ) (t : List ℕ) → OneLine (b ∷ t) → ListOffset (pre ++ b ∷ t) (length pre)
   open-offset b t k = offset (b ∷ t) (unended (open-inside pre b t) (open-end pre b t k))

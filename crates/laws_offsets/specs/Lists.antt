@@ -36,6 +36,8 @@ pub data WrongAt (list : List ℕ) (at : ℕ) : Type 0 where
 pub record ListOffset (list : List ℕ) (at : ℕ) : Type 0 where
   pub line : LineStart list at
   pub before : RightTo list at
+  -- "its first wrong line": an empty line in its place would be the first wrong one too
+  pub first : (m : List ℕ) → widthList (take at list ++ 10 ∷ m) ≡ unsound at
   pub here : WrongAt list at
 
 -- ---- 12: "query; start of its first wrong line (a last gap line is that line), 0 if empty"
@@ -57,4 +59,6 @@ pub data AskedWrongAt (q : List ℕ) (at : ℕ) : Type 0 where
 pub record QueryOffset (q : List ℕ) (at : ℕ) : Type 0 where
   pub line : LineStart q at
   pub before : AskedTo q at
+  -- an empty line in its place would be the first wrong one too
+  pub first : (m : List ℕ) → query (take at q ++ 10 ∷ m) ≡ illFormed at
   pub here : AskedWrongAt q at

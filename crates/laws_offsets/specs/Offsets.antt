@@ -1,7 +1,8 @@
 -- Document 01, "Refusal numbers and their order": which numbers each routine refuses with, and where each of them points. The proofs
 -- stand in `proofs/`.
-use Prim.Native.Nat.{ℕ, _≤_}
+use Prim.Native.Nat.{ℕ, _<_, _≤_}
 use mathlib.Core.List.{List, []}
+use mathlib.Core.Logic.{_⊎_}
 use mathlib.Core.Path.{_≡_}
 use lib.Dec.{eqb}
 use lib.ListN.{length}
@@ -59,3 +60,13 @@ pub record ByNumber : Type 0 where
   pub rewriter : (room : ℕ) (s list : List ℕ) (n at : ℕ) → respellInto room s list ≡ notSpelled n at → Said s list [] n at × (n ≡ 12 → ⊥)
   pub finder : (records hits : ℕ) (s list q : List ℕ) (n at : ℕ) → findInto records hits s list q ≡ notFound n at → Said s list q n at
   pub judge : (s list : List ℕ) (n at : ℕ) → judge s list ≡ J.Refused n at → Said s list [] n at × (n ≤ 11)
+
+-- ---- the places are the only ones of their kind
+
+-- A stream is refused wherever a command is at fault, or at its end, with that number; a width list and a query have one place each
+-- where a refusal may point. A query's is before its end, unless it is empty.
+pub record Exactly : Type 0 where
+  pub stream : (s list : List ℕ) (w : Widths) (n at : ℕ) → length s ≤ 16_777_216 → length list ≤ 65_536 → widthList list ≡ sound w → StreamOffset w s n at → read s list ≡ refuse n at
+  pub list : (list : List ℕ) (a b : ℕ) → ListOffset list a → ListOffset list b → a ≡ b
+  pub query : (q : List ℕ) (a b : ℕ) → QueryOffset q a → QueryOffset q b → a ≡ b
+  pub query-inside : (q : List ℕ) (at : ℕ) → QueryOffset q at → (q ≡ []) ⊎ (at < length q)
