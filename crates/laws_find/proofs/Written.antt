@@ -140,7 +140,7 @@ abbrev isSome : Option (List ℕ) → Bool
 isSome none = false
 isSome (some n) = true
 
-pub behind-front : (key t n : List ℕ) → behind key t ≡ some n → t ≡ key ++ n
+behind-front : (key t n : List ℕ) → behind key t ≡ some n → t ≡ key ++ n
 unfolding behind
 behind-front [] t n h = ap (behindOr []) h
 behind-front (x ∷ xs) [] n h = no (ap isSome h)

@@ -1,10 +1,10 @@
--- The places at which a refusal may point are the only ones of their kind.
+-- Where a place has what is said of the place of a refusal, the refusal is there.
 use Prim.Native.Nat.{ℕ, zero, suc, _+_, _-_, _<_, _≤_}
 use native.Mathlib.Omega.{arith}
 use mathlib.Core.Bool.{Bool, true, false}
-use mathlib.Core.List.{List, [], _∷_, _++_, append-assoc}
+use mathlib.Core.List.{List, [], _∷_, _++_, append-assoc, append-nil}
 use mathlib.Core.Logic.{_⊎_, inl, inr}
-use mathlib.Core.Path.{_≡_, refl, sym, ap, _∙_}
+use mathlib.Core.Path.{_≡_, refl, sym, ap, subst, _∙_}
 use borrow.Author.Tests.{eqb-true, eqb-false, ltb-true, ltb-false, le-ltb}
 use lib.Dec.{ltb}
 use lib.ListN.{length, take, drop, getD, length-drop, take-append-drop, List·getD-eq-default}
@@ -12,10 +12,10 @@ use lib.Seq.{getD-drop, take-take}
 use Rattle.rules.specs.Bytes.{is, isWhite, span, oneLine}
 use Rattle.rules.specs.Act.{Cmd}
 use Rattle.rules.specs.Scan.{letter, got, bad, Scan, command, commands}
-use Rattle.rules.specs.Widths.{Widths, WidthList, unsound, sound, widthList}
+use Rattle.rules.specs.Widths.{linesFrom, Widths, WidthList, unsound, sound, widthList}
 use Rattle.rules.specs.State.{Env, start, Glyph, Item, refused}
 use Rattle.rules.specs.Record.{Answer, refuse, afterRows, glyphRows, itemRows, follow}
-use Rattle.rules.specs.Find.{Query, illFormed, wellFormed, query}
+use Rattle.rules.specs.Find.{Wanted, queryLines, Query, illFormed, wellFormed, query}
 use Rattle.rules.specs.Answers.{read}
 use Rattle.laws.proofs.Cases.{on, no}
 use Rattle.laws_scan.proofs.Walk.{from, from-end, from-white, from-comment, from-bad, from-got}
@@ -24,6 +24,8 @@ use Rattle.laws_offsets.specs.Stream.{byteAt, behindAt, commandAt, First
 use Rattle.laws_offsets.specs.Lists.{LineStart, first-line, behind-newline, lineEnd, WrongAt, unended, wrong-line, missing, ListOffset, AskedWrongAt, empty, unended-line, wrong-asked, last-gap, QueryOffset}
 use Rattle.laws_offsets.specs.Offsets.{Exactly}
 use Rattle.laws_offsets.proofs.ByNumber.{line-inside}
+use Rattle.laws_offsets.proofs.Widths as W
+use Rattle.laws_offsets.proofs.Query as Q
 
 -- ---- lists
 
@@ -70,7 +72,23 @@ list-order list a b x y h = go (x .here)
     go : WrongAt list a → ⊥
     go (unended i e) = omega (arith, start-behind list a b (y .line) h, line-inside list b (y .line))
     go (wrong-line i f) = clash (λ t. listPlace (widthList t)) list a b (y .line) h (λ m. ap listPlace (f m)) (λ m. ap listPlace (y .first m))
-    go (missing e t w l s) = omega (arith, line-inside list b (y .line))
+    go (missing e n t w l s) = omega (arith, line-inside list b (y .line))
+
+-- what stands up to behind a line, and what stands behind that
+whole-by : (t : List ℕ) (k : ℕ) (P : List ℕ → Type 0) → ((m : List ℕ) → P (take k t ++ m)) → P t
+whole-by t k P f = subst P (take-append-drop k t) (f (drop k t))
+
+list-refused : (list : List ℕ) (at : ℕ) → ListOffset list at → widthList list ≡ unsound at
+list-refused list at x = go (widthList list) refl (W.list-claim list)
+  where
+    not-sound : (w : Widths) → widthList list ≡ sound w → LineStart list (length list) → WrongAt list at → ⊥
+    not-sound w e c (unended i l) = omega (arith, start-behind list at (length list) c i)
+    not-sound w e c (wrong-line i f) = no (ap W.isSound (sym (whole-by list (lineEnd list at + 1) (λ t. widthList t ≡ unsound at) f) ∙ e))
+    not-sound w e c (missing z n t v l s) = n w e
+
+    go : (a : WidthList) → widthList list ≡ a → W.Claim list a → widthList list ≡ unsound at
+    go (unsound p) e c = e ∙ ap unsound (one-place p at (list-order list p at c x) (list-order list at p x c))
+    go (sound w) e c = absurd (not-sound w e c (x .here))
 
 abbrev queryPlace : Query → ℕ
 queryPlace (illFormed at) = at
@@ -98,6 +116,28 @@ query-order q a b x y h = go (x .here) (query-inside q b y)
     go (unended-line k e) (inr i) = omega (arith, start-behind q a b (y .line) h)
     go (wrong-asked k f) (inr i) = clash (λ t. queryPlace (query t)) q a b (y .line) h (λ m. ap queryPlace (f m)) (λ m. ap queryPlace (y .first m))
     go (last-gap e qs f) (inr i) = omega (arith, gap-length q a e, start-behind q a b (y .line) h, ap oneLine e)
+
+abbrev isWell : Query → Bool
+isWell (illFormed at) = false
+isWell (wellFormed qs) = true
+
+query-refused : (q : List ℕ) (at : ℕ) → QueryOffset q at → query q ≡ illFormed at
+unfolding query queryLines linesFrom
+query-refused q at x = go (query q) refl (Q.query-claim q)
+  where
+    gap-behind : (qs : List Wanted) → query (take at q) ≡ wellFormed qs → query (take at q ++ gapLine) ≡ illFormed (length (take at q))
+    gap-behind qs e = let c : Q.Claim (take at q) (wellFormed qs) = rw e at (Q.query-claim (take at q)) in Q.gap-last (take at q) (c .0) (c .1)
+
+    not-well : (qs : List Wanted) → query q ≡ wellFormed qs → LineStart q (length q) → AskedWrongAt q at → ⊥
+    not-well qs e c (empty z y) = no (ap isWell (ap query (sym z) ∙ e))
+    not-well qs e c (unended-line i l) = omega (arith, start-behind q at (length q) c i)
+    not-well qs e c (wrong-asked i f) = no (ap isWell (sym (whole-by q (lineEnd q at + 1) (λ t. query t ≡ illFormed at) f) ∙ e))
+    not-well qs e c (last-gap z ws f) =
+        no (ap isWell (sym (gap-behind ws f) ∙ ap (λ (u : List ℕ). query (take at q ++ u)) (sym z) ∙ ap query (take-append-drop at q) ∙ e))
+
+    go : (a : Query) → query q ≡ a → Q.Claim q a → query q ≡ illFormed at
+    go (illFormed p) e c = e ∙ ap illFormed (one-place p at (query-order q p at c x) (query-order q at p x c))
+    go (wellFormed qs) e c = absurd (not-well qs e (rw append-nil at (c .1 .start [])) (x .here))
 
 -- ---- streams
 
@@ -168,7 +208,7 @@ read-refused s list w n at h k e o = rw (le-ltb 16_777_216 (length s) h, le-ltb 
 pub exactly : Exactly
 exactly = record {
   stream = read-refused;
-  list = λ list a b x y. one-place a b (list-order list a b x y) (list-order list b a y x);
-  query = λ q a b x y. one-place a b (query-order q a b x y) (query-order q b a y x);
+  list = list-refused;
+  query = query-refused;
   query-inside = query-inside;
 }

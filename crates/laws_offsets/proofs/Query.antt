@@ -16,7 +16,7 @@ use Rattle.laws_offsets.specs.Lists.{LineStart, first-line, AskedTo, not
 use Rattle.laws_offsets.proofs.Lines.{Lines, no-line, open-line, one-more, lines, open-front, longer, longer-on, longer-length, longer-start, line-inside, line-taken, open-inside, open-end}
 
 -- glyphs in front of what a query asks for
-abbrev prefixed : List Wanted → Query → Query
+abbrev pub prefixed : List Wanted → Query → Query
 prefixed ws (illFormed at) = illFormed at
 prefixed ws (wellFormed qs) = wellFormed (ws ++ qs)
 
@@ -29,14 +29,14 @@ prefixed-on ws g name (illFormed at) = refl
 prefixed-on ws g name (wellFormed qs) = ap wellFormed (sym (append-assoc ws (record { gap = g; name = name } ∷ []) qs))
 
 -- pre ends with a gap line at p, behind what is well formed
-record Parted (pre : List ℕ) (p : ℕ) : Type 0 where
-  front : List ℕ
-  asked : List Wanted
-  whole : pre ≡ front ++ gapLine
-  place : p ≡ length front
-  fine : query front ≡ wellFormed asked
-  start : LineStart (front ++ gapLine) (length front)
-  empty-next : (m : List ℕ) → query (front ++ 10 ∷ m) ≡ illFormed (length front)
+pub record Parted (pre : List ℕ) (p : ℕ) : Type 0 where
+  pub front : List ℕ
+  pub asked : List Wanted
+  pub whole : pre ≡ front ++ gapLine
+  pub place : p ≡ length front
+  pub fine : query front ≡ wellFormed asked
+  pub start : LineStart (front ++ gapLine) (length front)
+  pub empty-next : (m : List ℕ) → query (front ++ 10 ∷ m) ≡ illFormed (length front)
 
 -- up to the gap line
 front-taken : (pre post : List ℕ) (p : ℕ) (b : Parted pre p) → take (length (b .front)) (pre ++ post) ≡ b .front
@@ -45,17 +45,17 @@ front-taken pre post p b =
     ∙ ap (take (length (b .front))) (append-assoc (b .front) gapLine post)
     ∙ take-front (b .front) (gapLine ++ post)
 
-abbrev Behind : List ℕ → Expected → Type 0
+abbrev pub Behind : List ℕ → Expected → Type 0
 Behind pre firstGlyph = pre ≡ []
 Behind pre (gapGlyph p) = Parted pre p
 Behind pre either = Unit {0}
 
 -- The lines of pre are right and ask for ws; n glyph lines are among them, and this is expected behind them.
-record ReadTo (pre : List ℕ) (n : ℕ) (x : Expected) : Type 0 where
-  ws : List Wanted
-  on : (m : List ℕ) → query (pre ++ m) ≡ prefixed ws (queryLines n x (linesFrom (length pre) m))
-  start : (m : List ℕ) → LineStart (pre ++ m) (length pre)
-  behind-it : Behind pre x
+pub record ReadTo (pre : List ℕ) (n : ℕ) (x : Expected) : Type 0 where
+  pub ws : List Wanted
+  pub on : (m : List ℕ) → query (pre ++ m) ≡ prefixed ws (queryLines n x (linesFrom (length pre) m))
+  pub start : (m : List ℕ) → LineStart (pre ++ m) (length pre)
+  pub behind-it : Behind pre x
 
 module _ (pre : List ℕ) (n : ℕ) (x : Expected) (h : ReadTo pre n x) where
   ends-so : query pre ≡ prefixed (h .ws) (queryEnds x)
@@ -127,13 +127,14 @@ gap-on pre n t h k e a = record {
 
 -- ---- the whole query
 
+-- what is said of a query that is refused; of one that is not, that more may follow
 abbrev pub Claim : List ℕ → Query → Type 0
 Claim q (illFormed at) = QueryOffset q at
-Claim q (wellFormed qs) = Unit {0}
+Claim q (wellFormed qs) = (n : ℕ) × ReadTo q n either
 
 wanted-claim : (q : List ℕ) (g : Gap) (name : List ℕ) (x : Query) → Claim q x → Claim q (withWanted g name x)
 wanted-claim q g name (illFormed at) h = h
-wanted-claim q g name (wellFormed qs) h = tt
+wanted-claim q g name (wellFormed qs) h = h
 
 gap-offset : (pre : List ℕ) (p : ℕ) → Parted pre p → QueryOffset pre p
 gap-offset pre p b = rw (b .whole, b .place) (record {
@@ -143,11 +144,11 @@ gap-offset pre p b = rw (b .whole, b .place) (record {
   here = last-gap (drop-front (b .front) gapLine) (b .asked) (rw (take-front (b .front) gapLine) (b .fine));
 })
 
-end-claim : (pre : List ℕ) (x : Expected) → Behind pre x → Claim pre (queryEnds x)
+end-claim : (pre : List ℕ) (n : ℕ) (x : Expected) → ReadTo pre n x → Claim pre (queryEnds x)
 unfolding query queryLines linesFrom behind same
-end-claim pre firstGlyph b = record { line = first-line; before = nothing refl; first = λ m. refl; here = empty b refl }
-end-claim pre (gapGlyph p) b = gap-offset pre p b
-end-claim pre either b = tt
+end-claim pre n firstGlyph h = record { line = first-line; before = nothing refl; first = λ m. refl; here = empty (h .behind-it) refl }
+end-claim pre n (gapGlyph p) h = gap-offset pre p (h .behind-it)
+end-claim pre n either h = (n, h)
 
 -- a line of the text t behind pre; the lines behind it are claimed of
 module _ (pre t r : List ℕ) (n : ℕ) (k : OneLine t)
@@ -169,7 +170,7 @@ module _ (pre t r : List ℕ) (n : ℕ) (k : OneLine t)
 
 claims : {post : List ℕ} → Lines post → (pre : List ℕ) (n : ℕ) (x : Expected) → ReadTo pre n x → Claim (pre ++ post) (queryLines n x (linesFrom (length pre) post))
 unfolding queryLines linesFrom
-claims no-line pre n x h = rw append-nil (end-claim pre x (h .behind-it))
+claims no-line pre n x h = rw append-nil (end-claim pre n x h)
 claims (open-line b t k) pre n x h = rw (open-front b t (length pre) k) (open-offset pre n x h b t k)
 claims (one-more t r k more) pre n x h =
     rw (line-front t (length pre) r k)
@@ -178,3 +179,8 @@ claims (one-more t r k more) pre n x h =
 pub query-claim : (q : List ℕ) → Claim q (query q)
 unfolding query
 query-claim q = claims (lines q) [] 0 firstGlyph (record { ws = []; on = λ m. prefixed-none (query m); start = λ m. first-line; behind-it = refl })
+
+-- a gap line behind a query is its first wrong line
+pub gap-last : (q : List ℕ) (n : ℕ) → ReadTo q n either → query (q ++ gapLine) ≡ illFormed (length q)
+unfolding queryLines linesFrom behind same
+gap-last q n h = h .on gapLine

@@ -85,7 +85,7 @@ module _ (w : Widths) (s : List ℕ) where
       let t : ReadTo w s at e = rw add-zero at h in
       let i : at < length s = omega (arith, sym (length-drop at s) ∙ ap length d) in
       let more : (k : ℕ) (x : Env) → k ≤ length r → ReadTo w s (at + 1 + k) x → Points (follow w x (commands (at + 1) k r)) =
-          λ k x q u. stream-points r (at + 1) k x rest (omega arith) q u in
+      λ k x q u. stream-points r (at + 1) k x rest (omega arith) q u in
       let P : Cmds → Type 0 = λ cs. Points (follow w e cs) in
       if-on P (isWhite b) _ _ (λ p. more 0 e (omega arith) (rw add-zero (past-white at e t (rw here p)))) (λ n.
       if-on P (is "#" b) _ _ (λ p. more (oneLine r) e (span-le isNotNewline r) (rw rest at (past-comment at e t (rw here p)))) (λ p.

@@ -1,15 +1,20 @@
 -- Refusal 2 points at the start of the width list's first wrong line, or at its end.
 use Prim.Native.Nat.{ℕ, _+_}
+use mathlib.Core.Bool.{Bool, true, false}
 use mathlib.Core.List.{List, [], _∷_, _++_, append-nil}
 use mathlib.Core.Logic.{_⊎_, inl, inr}
-use mathlib.Core.Path.{_≡_, refl, _∙_}
+use mathlib.Core.Path.{_≡_, refl, sym, ap, _∙_}
 use lib.ListN.{length}
 use Rattle.rules.specs.Bytes.{bytes, is, span, oneLine}
 use Rattle.rules.specs.Widths.{linesFrom, behind, Widths, Due, unitDue, blockDue, widthDue, LineRead, wrongLine, rightLine, lineSays, WidthList, unsound, sound, listEnds, lineOn, linesSay, widthList}
-use Rattle.laws.proofs.Cases.{take-front}
+use Rattle.laws.proofs.Cases.{no, take-front}
 use Rattle.laws_find.proofs.Written.{OneLine, line-front}
 use Rattle.laws_offsets.specs.Lists.{LineStart, first-line, RightTo, WrongAt, unended, wrong-line, missing, ListOffset}
 use Rattle.laws_offsets.proofs.Lines.{Lines, no-line, open-line, one-more, lines, open-front, is-line, longer, longer-on, longer-length, longer-start, line-inside, line-taken, open-inside, open-end}
+
+abbrev pub isSound : WidthList → Bool
+isSound (unsound at) = false
+isSound (sound w) = true
 
 abbrev noWidths : Widths
 noWidths = record { unitwidth = 0; fonts = [] }
@@ -66,21 +71,22 @@ module _ (pre : List ℕ) (w : Widths) (d : Due) (h : ReadTo pre w d) where
       (λ m′. rw (line-taken pre t m k, longer-on pre t m′) (wrong-so t m′ k e)))
 
   -- a line is missing: with one more it would be sound
-  end-offset : (t : List ℕ) (v : Widths) → oneLine t ≡ length t → lineSays w t d ≡ rightLine blockDue v → ListOffset pre (length pre)
+  end-offset : (t : List ℕ) (v : Widths) → listEnds (length pre) w d ≡ unsound (length pre) → oneLine t ≡ length t → lineSays w t d ≡ rightLine blockDue v → ListOffset pre (length pre)
   unfolding widthList linesFrom linesSay
-  end-offset t v l e =
-      let x : WrongAt pre (length pre) = missing refl t v l (rw (right-so (length (pre ++ (t ++ 10 ∷ []))) t [] blockDue v (is-line t l) e)) in
+  end-offset t v u l e =
+      let x : WrongAt pre (length pre) = missing refl (λ x y. no (ap isSound (sym (ends-so ∙ u) ∙ y))) t v l (rw (right-so (length (pre ++ (t ++ 10 ∷ []))) t [] blockDue v (is-line t l) e)) in
       rw append-nil at (offset [] (rw append-nil x))
 
+-- what is said of a list that is refused; of one that is not, that its last line is ended
 abbrev pub Claim : List ℕ → WidthList → Type 0
 Claim list (unsound at) = ListOffset list at
-Claim list (sound w) = Unit {0}
+Claim list (sound w) = LineStart list (length list)
 
 end-claim : (pre : List ℕ) (w : Widths) (d : Due) → ReadTo pre w d → Claim pre (listEnds (length pre) w d)
 unfolding behind span
-end-claim pre w unitDue h = end-offset pre w unitDue h (bytes "unitwidth=1") _ refl refl
-end-claim pre w blockDue h = tt
-end-claim pre w (widthDue b) h = end-offset pre w (widthDue b) h (bytes "width=0") _ refl refl
+end-claim pre w unitDue h = end-offset pre w unitDue h (bytes "unitwidth=1") _ refl refl refl
+end-claim pre w blockDue h = rw append-nil at (h .start [])
+end-claim pre w (widthDue b) h = end-offset pre w (widthDue b) h (bytes "width=0") _ refl refl refl
 
 claims : {post : List ℕ} → Lines post → (pre : List ℕ) (w : Widths) (d : Due) → ReadTo pre w d → Claim (pre ++ post) (linesSay (length (pre ++ post)) w d (linesFrom (length pre) post))
 unfolding linesSay linesFrom

@@ -26,12 +26,12 @@ lineEnd t at = at + oneLine (drop at t)
 abbrev pub RightTo : List ℕ → ℕ → Type 0
 RightTo list at = ((w : Widths) × (widthList (take at list) ≡ sound w)) ⊎ (widthList (take at list) ≡ unsound at)
 
--- What is wrong at the place: a line without a newline; a line that is wrong whatever stands behind it; or it is the end, and with one
--- line more the list would be sound.
+-- What is wrong at the place: a line without a newline; a line that is wrong whatever stands behind it; or it is the end, and the list is
+-- not sound, but would be with one line more.
 pub data WrongAt (list : List ℕ) (at : ℕ) : Type 0 where
   unended : at < length list → lineEnd list at ≡ length list → WrongAt list at
   wrong-line : lineEnd list at < length list → ((m : List ℕ) → widthList (take (lineEnd list at + 1) list ++ m) ≡ unsound at) → WrongAt list at
-  missing : at ≡ length list → (t : List ℕ) (w : Widths) → oneLine t ≡ length t → widthList (list ++ (t ++ 10 ∷ [])) ≡ sound w → WrongAt list at
+  missing : at ≡ length list → ((v : Widths) → widthList list ≡ sound v → ⊥) → (t : List ℕ) (w : Widths) → oneLine t ≡ length t → widthList (list ++ (t ++ 10 ∷ [])) ≡ sound w → WrongAt list at
 
 pub record ListOffset (list : List ℕ) (at : ℕ) : Type 0 where
   pub line : LineStart list at

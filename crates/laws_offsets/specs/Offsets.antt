@@ -8,8 +8,9 @@ use lib.Dec.{eqb}
 use lib.ListN.{length}
 use Rattle.rules.specs.declared.Judging.the-variants as J
 use Rattle.rules.specs.Bytes.{if_then_else_}
-use Rattle.rules.specs.Widths.{Widths, sound, widthList}
+use Rattle.rules.specs.Widths.{Widths, unsound, sound, widthList}
 use Rattle.rules.specs.Record.{refuse}
+use Rattle.rules.specs.Find.{illFormed, query}
 use Rattle.rules.specs.Answers.{read, readInto, notSpelled, respell, respellInto, notFound, find, findInto, judge}
 use Rattle.laws_offsets.specs.Stream.{FirstByte, StreamOffset}
 use Rattle.laws_offsets.specs.Lists.{ListOffset, QueryOffset}
@@ -61,12 +62,12 @@ pub record ByNumber : Type 0 where
   pub finder : (records hits : ℕ) (s list q : List ℕ) (n at : ℕ) → findInto records hits s list q ≡ notFound n at → Said s list q n at
   pub judge : (s list : List ℕ) (n at : ℕ) → judge s list ≡ J.Refused n at → Said s list [] n at × (n ≤ 11)
 
--- ---- the places are the only ones of their kind
+-- ---- and nowhere else
 
--- A stream is refused wherever a command is at fault, or at its end, with that number; a width list and a query have one place each
--- where a refusal may point. A query's is before its end, unless it is empty.
+-- The other way: where a place has what is said of it, the refusal is there. So no second place has it.
 pub record Exactly : Type 0 where
   pub stream : (s list : List ℕ) (w : Widths) (n at : ℕ) → length s ≤ 16_777_216 → length list ≤ 65_536 → widthList list ≡ sound w → StreamOffset w s n at → read s list ≡ refuse n at
-  pub list : (list : List ℕ) (a b : ℕ) → ListOffset list a → ListOffset list b → a ≡ b
-  pub query : (q : List ℕ) (a b : ℕ) → QueryOffset q a → QueryOffset q b → a ≡ b
+  pub list : (list : List ℕ) (at : ℕ) → ListOffset list at → widthList list ≡ unsound at
+  pub query : (q : List ℕ) (at : ℕ) → QueryOffset q at → query q ≡ illFormed at
+  -- a query's place is before its end, unless it is empty
   pub query-inside : (q : List ℕ) (at : ℕ) → QueryOffset q at → (q ≡ []) ⊎ (at < length q)
