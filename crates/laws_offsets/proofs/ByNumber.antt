@@ -33,9 +33,9 @@ of-stream w s _ _ (at-command n at f) =
 of-stream w s _ _ (at-end e h p) =
     record { number = (omega arith, omega arith); first = λ k. absurd (omega arith); end = λ k. refl; inside = omega arith }
 
-pub line-inside : (t : List ℕ) (at : ℕ) → LineStart t at → at ≤ length t
-line-inside t _ first-line = omega arith
-line-inside t _ (behind-newline at h e) = omega arith
+pub start-inside : (t : List ℕ) (at : ℕ) → LineStart t at → at ≤ length t
+start-inside t _ first-line = omega arith
+start-inside t _ (behind-newline at h e) = omega arith
 
 module _ (s list q : List ℕ) where
   -- 1 and 13, which point at no place
@@ -60,7 +60,7 @@ module _ (s list q : List ℕ) where
     of-11 = λ h. absurd (omega arith);
     of-12 = λ h. absurd (omega arith);
     of-13 = λ h. absurd (omega arith);
-    inside = line-inside list at (o .line);
+    inside = start-inside list at (o .line);
   }
 
   stream-said : (n at : ℕ) → OfStream s n at → Said s list q n at
@@ -88,7 +88,7 @@ module _ (s list q : List ℕ) where
     of-11 = λ h. absurd (omega arith);
     of-12 = λ h. o;
     of-13 = λ h. absurd (omega arith);
-    inside = line-inside q at (o .line);
+    inside = start-inside q at (o .line);
   }
 
   read-said : (n at : ℕ) → ReadOffset s list n at → Said s list q n at

@@ -23,7 +23,7 @@ use Rattle.laws_find.specs.Written.{gapLine}
 use Rattle.laws_offsets.specs.Stream.{byteAt, behindAt, commandAt, FirstByte, ReadTo, from-start, past-white, past-comment, past-command, Fault, as-written, as-done, behind-stop, StreamOffset, at-command, at-end}
 use Rattle.laws_offsets.specs.Lists.{LineStart, first-line, behind-newline, lineEnd, WrongAt, unended, wrong-line, missing, ListOffset, AskedWrongAt, empty, unended-line, wrong-asked, last-gap, QueryOffset}
 use Rattle.laws_offsets.specs.Offsets.{Exactly}
-use Rattle.laws_offsets.proofs.ByNumber.{line-inside}
+use Rattle.laws_offsets.proofs.ByNumber.{start-inside}
 use Rattle.laws_offsets.proofs.Widths as W
 use Rattle.laws_offsets.proofs.Query as Q
 
@@ -70,9 +70,9 @@ list-order : (list : List ℕ) (a b : ℕ) → ListOffset list a → ListOffset 
 list-order list a b x y h = go (x .here)
   where
     go : WrongAt list a → ⊥
-    go (unended i e) = omega (arith, start-behind list a b (y .line) h, line-inside list b (y .line))
+    go (unended i e) = omega (arith, start-behind list a b (y .line) h, start-inside list b (y .line))
     go (wrong-line i f) = clash (λ t. listPlace (widthList t)) list a b (y .line) h (λ m. ap listPlace (f m)) (λ m. ap listPlace (y .first m))
-    go (missing e n t w l s) = omega (arith, line-inside list b (y .line))
+    go (missing e n t w l s) = omega (arith, start-inside list b (y .line))
 
 -- what stands up to behind a line, and what stands behind that
 whole-by : (t : List ℕ) (k : ℕ) (P : List ℕ → Type 0) → ((m : List ℕ) → P (take k t ++ m)) → P t
@@ -111,7 +111,7 @@ unfolding span
 query-order q a b x y h = go (x .here) (query-inside q b y)
   where
     go : AskedWrongAt q a → (q ≡ []) ⊎ (b < length q) → ⊥
-    go w (inl e) = omega (arith, line-inside q b (y .line), ap length e)
+    go w (inl e) = omega (arith, start-inside q b (y .line), ap length e)
     go (empty e z) (inr i) = omega (arith, ap length e)
     go (unended-line k e) (inr i) = omega (arith, start-behind q a b (y .line) h)
     go (wrong-asked k f) (inr i) = clash (λ t. queryPlace (query t)) q a b (y .line) h (λ m. ap queryPlace (f m)) (λ m. ap queryPlace (y .first m))
