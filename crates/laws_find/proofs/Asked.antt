@@ -44,15 +44,15 @@ part-either at (wellFormed qs) h = h
 claim-line : (n : ℕ) (x : Expected) (at : ℕ) (t : List ℕ) (go : ℕ → Expected → Query) (o : Option (List ℕ))
     → ((m : ℕ) (y : Expected) → Claim y (go m y)) → Claim x (queryLine n x at t go o)
 claim-line n x at t go (some name) more =
-    if-both (Claim x) (mayAsk n name) (withWanted (gapOf x) name (go (n + 1) either)) (illFormed at) (claim-glyph x name (go (n + 1) either) (more (n + 1) either)) tt
+    if-both (Claim x) (mayAsk n name) _ _ (claim-glyph x name (go (n + 1) either) (more (n + 1) either)) tt
 claim-line n x at t go none more =
-    claim-gap x (same t (bytes "gap=any")) at (go n (gapGlyph at)) (part-either at (go n (gapGlyph at)) (more n (gapGlyph at)))
+    claim-gap x (same t (bytes "gap=any")) _ (go n (gapGlyph at)) (part-either at (go n (gapGlyph at)) (more n (gapGlyph at)))
 
 claim-lines : (ls : List Line) (n : ℕ) (x : Expected) → Claim x (queryLines n x ls)
 unfolding queryLines
 claim-lines [] n x = claim-ends x
 claim-lines (l ∷ ls) n x =
-    if-both (Claim x) (l .ended) (queryLine n x (l .place) (l .text) (λ m y. queryLines m y ls) (behind (bytes "glyph=") (l .text))) (illFormed (l .place))
+    if-both (Claim x) (l .ended) _ _
     (claim-line n x (l .place) (l .text) (λ m y. queryLines m y ls) (behind (bytes "glyph=") (l .text)) (λ m y. claim-lines ls m y)) tt
 
 pub query-shape : (q : List ℕ) (qs : List Wanted) → query q ≡ wellFormed qs → QueryShape qs

@@ -48,7 +48,7 @@ good-string n h =
 -- ---- lines
 
 -- a text of one line
-abbrev OneLine : List ℕ → Type 0
+abbrev pub OneLine : List ℕ → Type 0
 OneLine [] = Unit {0}
 OneLine (b ∷ t) = (is "\n" b ≡ false) × OneLine t
 
@@ -60,7 +60,7 @@ no-white-line : (n : List ℕ) → NoWhite n → OneLine n
 no-white-line [] h = tt
 no-white-line (b ∷ n) h = (or-right (isSpace b) (is "\n" b) (h .0), no-white-line n (h .1))
 
-line-front : (t : List ℕ) (at : ℕ) (r : List ℕ) → OneLine t → linesFrom at (t ++ 10 ∷ r) ≡ record { place = at; text = t; ended = true } ∷ linesFrom (at + length t + 1) r
+pub line-front : (t : List ℕ) (at : ℕ) (r : List ℕ) → OneLine t → linesFrom at (t ++ 10 ∷ r) ≡ record { place = at; text = t; ended = true } ∷ linesFrom (at + length t + 1) r
 unfolding linesFrom
 line-front [] at r h = rw add-zero
 line-front (b ∷ t) at r h =

@@ -212,7 +212,7 @@ module _ (w : Widths) (s : List ℕ) where
 
   pub follow-rows : (cs : Cmds) (e : Env) → AllStand s cs → RowsOf s (follow w e cs)
   unfolding follow
-  follow-rows (done at) e h = if-both (RowsOf s) (stopped e) (answer [] [] e) (refuse 11 at) (tt, tt) tt
+  follow-rows (done at) e h = if-both (RowsOf s) (stopped e) _ _ (tt, tt) tt
   follow-rows (wrong n at) e h = tt
   follow-rows (next c at a l more) e h = go (perform e (acts w e c)) (step-cats w e c) (λ d. follow-rows more d (h .2))
     where
@@ -226,7 +226,7 @@ names-stand w s = follow-rows w s (commands 0 0 s) start (commands-stand s s 0 0
 
 pub read-stands : (s list : List ℕ) → RowsOf s (read s list)
 unfolding read
-read-stands s list = if-both (RowsOf s) (isOver streamMost s || isOver 65_536 list) (refuse 1 0) (readWith s (widthList list)) tt (go (widthList list))
+read-stands s list = if-both (RowsOf s) (isOver streamMost s || isOver 65_536 list) _ _ tt (go (widthList list))
   where
     go : (w : WidthList) → RowsOf s (readWith s w)
     go (unsound at) = tt

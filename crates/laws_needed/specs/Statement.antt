@@ -10,7 +10,7 @@ use Rattle.rules.specs.State.{get, Env, start, Glyph, Item, went, run}
 use Rattle.rules.specs.House.{spellAct, spellAll}
 use Rattle.rules.specs.Answers.{read, spelled, respell}
 use Rattle.laws_moves.specs.Sparing.{Kind, placed, mute, goes, shifts, turns, other, kindOf, behind}
-use Rattle.demands.specs.Statements.{SameReading, cmdsOf}
+use Rattle.laws_answers.specs.Statements.{SameReading, cmdsOf}
 
 -- ---- whether the place behind a line is told before it is lost
 

@@ -12,8 +12,8 @@ use Rattle.laws.proofs.Cases.{no}
 use Rattle.laws_read.proofs.Runs.{well, well-before}
 use Rattle.laws_moves.specs.Sparing.{placed, mute, kindOf, Spared, After, Sparing}
 use Rattle.laws_moves.proofs.Spare.{Same, stays, top, facts}
-use Rattle.demands_moves.specs.Statement.{acrossOnly, otherAxis, PlaceToldBy, PlaceTold}
-use Rattle.demands_moves.proofs.Leaving.{to-same, mute-same}
+use Rattle.laws_needed.specs.Statement.{acrossOnly, otherAxis, PlaceToldBy, PlaceTold}
+use Rattle.laws_needed.proofs.Leaving.{to-same, mute-same}
 
 -- the places agree on the other axis
 abbrev pub Beside : Axis → Spot → Spot → Type 0

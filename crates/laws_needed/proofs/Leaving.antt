@@ -14,7 +14,7 @@ use Rattle.laws.proofs.Cases.{on, no, and-left, if-on, drop-front}
 use Rattle.laws_read.proofs.Placed.{didGo}
 use Rattle.laws_moves.specs.Sparing.{placed, mute, kindOf}
 use Rattle.laws_moves.proofs.Spare.{Same, stays, top, not-stopped, facts}
-use Rattle.demands_moves.specs.Statement.{acrossOnly, otherAxis, PlaceToldBy, PlaceTold}
+use Rattle.laws_needed.specs.Statement.{acrossOnly, otherAxis, PlaceToldBy, PlaceTold}
 
 -- ---- what is read, as far as places go
 

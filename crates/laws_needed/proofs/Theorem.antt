@@ -24,11 +24,11 @@ use Rattle.laws_print.proofs.Trip.{round-trip, bare-placed, placed-ended, spell
 use Rattle.laws_scan.proofs.Fair.{commands-good}
 use Rattle.laws_moves.specs.Sparing.{Kind, placed, mute, goes, shifts, turns, other, kindOf, isPlaced, placedNext, vNext, behind, Spared, Sparing}
 use Rattle.laws_moves.proofs.Spare.{house-spares, sparing-at}
-use Rattle.demands.specs.Statements.{Accepted, SameReading, cmdsOf}
-use Rattle.demands.proofs.Theorems.{SoundInputs, sound-of, read-follow, all-well, read-says, same-reading, spelling-bare, Spelt, spelt, roundTrip}
-use Rattle.demands_moves.specs.Statement.{PlaceToldBy, PlaceTold, muteBy, muteNext, OnlyWhereItDiffers, MotionsNeeded}
-use Rattle.demands_moves.proofs.Leaving.{Alike, Reads, Rest, peel, differ, go-before, on-page-not-stopped}
-use Rattle.demands_moves.proofs.Idle.{Beside, idle}
+use Rattle.laws_answers.specs.Statements.{Accepted, SameReading, cmdsOf}
+use Rattle.laws_answers.proofs.Theorems.{SoundInputs, sound-of, read-follow, all-well, read-says, same-reading, spelling-bare, Spelt, spelt, roundTrip}
+use Rattle.laws_needed.specs.Statement.{PlaceToldBy, PlaceTold, muteBy, muteNext, OnlyWhereItDiffers, MotionsNeeded}
+use Rattle.laws_needed.proofs.Leaving.{Alike, Reads, Rest, peel, differ, go-before, on-page-not-stopped}
+use Rattle.laws_needed.proofs.Idle.{Beside, idle}
 
 -- ---- the acts of a spelling
 

@@ -1,0 +1,133 @@
+-- The refusals by their numbers: what each one's offset is, and that it lies in its input.
+use Prim.Native.Nat.{ℕ, _≤_}
+use native.Mathlib.Omega.{arith}
+use mathlib.Core.Bool.{false}
+use mathlib.Core.List.{List, []}
+use mathlib.Core.Path.{_≡_, refl}
+use borrow.Author.Tests.{ne-eqb}
+use lib.Dec.{eqb}
+use lib.ListN.{length}
+use Rattle.rules.specs.Widths.{Widths}
+use Rattle.rules.specs.State.{Env}
+use Rattle.laws_offsets.specs.Stream.{FirstByte, Fault, as-written, as-done, behind-stop, StreamOffset, at-command, at-end}
+use Rattle.laws_offsets.specs.Lists.{LineStart, first-line, behind-newline, ListOffset, QueryOffset}
+use Rattle.laws_offsets.specs.Offsets.{ReadOffset, too-long, in-list, in-stream, FindOffset, as-read, in-query, OrRoom, room-aside, no-room, Said, ByNumber}
+use Rattle.laws_offsets.proofs.Offsets.{offsets}
+
+-- of a stream: 3 to 10 at a first byte, or 11 at the end
+record OfStream (s : List ℕ) (n at : ℕ) : Type 0 where
+  number : (3 ≤ n) × (n ≤ 11)
+  first : n ≤ 10 → FirstByte s at
+  end : n ≡ 11 → at ≡ length s
+  inside : at ≤ length s
+
+fault-number : (w : Widths) (s : List ℕ) (at : ℕ) (e : Env) (n : ℕ) → Fault w s at e n → (3 ≤ n) × (n ≤ 10)
+fault-number w s at e _ (as-written n k p q lo hi) = (lo, omega arith)
+fault-number w s at e _ (as-done n c a l p q lo hi) = (omega arith, hi)
+fault-number w s at e _ (behind-stop n k p q) = (omega arith, omega arith)
+
+of-stream : (w : Widths) (s : List ℕ) (n at : ℕ) → StreamOffset w s n at → OfStream s n at
+of-stream w s _ _ (at-command n at f) =
+    let r : (3 ≤ n) × (n ≤ 10) = fault-number w s at (f .env) n (f .fault) in
+    record { number = (r .0, omega arith); first = λ h. f .first; end = λ h. absurd (omega arith); inside = omega (arith, f .first .inside) }
+of-stream w s _ _ (at-end e h p) =
+    record { number = (omega arith, omega arith); first = λ k. absurd (omega arith); end = λ k. refl; inside = omega arith }
+
+pub start-inside : (t : List ℕ) (at : ℕ) → LineStart t at → at ≤ length t
+start-inside t _ first-line = omega arith
+start-inside t _ (behind-newline at h e) = omega arith
+
+module _ (s list q : List ℕ) where
+  -- 1 and 13, which point at no place
+  zero-said : (n : ℕ) → 1 ≤ n → n ≤ 13 → (n ≡ 2 → ⊥) → (3 ≤ n → n ≤ 12 → ⊥) → Said s list q n 0
+  zero-said n lo hi no-2 no-3 = record {
+    number = (lo, hi);
+    of-1 = λ h. refl;
+    of-2 = λ h. absurd (no-2 h);
+    of-3-to-10 = λ h k. absurd (no-3 h (omega arith));
+    of-11 = λ h. absurd (no-3 (omega arith) (omega arith));
+    of-12 = λ h. absurd (no-3 (omega arith) (omega arith));
+    of-13 = λ h. refl;
+    inside = omega arith;
+  }
+
+  list-said : (at : ℕ) → ListOffset list at → Said s list q 2 at
+  list-said at o = record {
+    number = (omega arith, omega arith);
+    of-1 = λ h. absurd (omega arith);
+    of-2 = λ h. o;
+    of-3-to-10 = λ h k. absurd (omega arith);
+    of-11 = λ h. absurd (omega arith);
+    of-12 = λ h. absurd (omega arith);
+    of-13 = λ h. absurd (omega arith);
+    inside = start-inside list at (o .line);
+  }
+
+  stream-said : (n at : ℕ) → OfStream s n at → Said s list q n at
+  stream-said n at o =
+      let r : (3 ≤ n) × (n ≤ 11) = o .number in
+      let no-2 : eqb n 2 ≡ false = ne-eqb n 2 (λ h. omega arith) in
+      let no-12 : eqb n 12 ≡ false = ne-eqb n 12 (λ h. omega arith) in
+      record {
+        number = (omega arith, omega arith);
+        of-1 = λ h. absurd (omega arith);
+        of-2 = λ h. absurd (omega arith);
+        of-3-to-10 = λ h k. o .first k;
+        of-11 = o .end;
+        of-12 = λ h. absurd (omega arith);
+        of-13 = λ h. absurd (omega arith);
+        inside = rw (no-2, no-12) (o .inside);
+      }
+
+  query-said : (at : ℕ) → QueryOffset q at → Said s list q 12 at
+  query-said at o = record {
+    number = (omega arith, omega arith);
+    of-1 = λ h. absurd (omega arith);
+    of-2 = λ h. absurd (omega arith);
+    of-3-to-10 = λ h k. absurd (omega arith);
+    of-11 = λ h. absurd (omega arith);
+    of-12 = λ h. o;
+    of-13 = λ h. absurd (omega arith);
+    inside = start-inside q at (o .line);
+  }
+
+  read-said : (n at : ℕ) → ReadOffset s list n at → Said s list q n at
+  read-said _ _ too-long = zero-said 1 (omega arith) (omega arith) (λ h. omega arith) (λ h k. omega arith)
+  read-said _ _ (in-list at o) = list-said at o
+  read-said _ _ (in-stream n at w e o) = stream-said n at (of-stream w s n at o)
+
+  find-said : (n at : ℕ) → FindOffset s list q n at → Said s list q n at
+  find-said _ _ (as-read n at o) = read-said n at o
+  find-said _ _ (in-query at o) = query-said at o
+
+  either-said : (P : ℕ → ℕ → Type 0) → ((n at : ℕ) → P n at → Said s list q n at) → (n at : ℕ) → OrRoom P n at → Said s list q n at
+  either-said P f _ _ (room-aside n at o) = f n at o
+  either-said P f _ _ no-room = zero-said 13 (omega arith) (omega arith) (λ h. omega arith) (λ h k. omega arith)
+
+-- the numbers alone: the reader's, never with 12; the finder's
+pub read-number : (s list : List ℕ) (n at : ℕ) → ReadOffset s list n at → (1 ≤ n) × (n ≤ 11)
+read-number s list _ _ too-long = (omega arith, omega arith)
+read-number s list _ _ (in-list at o) = (omega arith, omega arith)
+read-number s list _ _ (in-stream n at w e o) = let r : (3 ≤ n) × (n ≤ 11) = of-stream w s n at o .number in (omega arith, omega arith)
+
+pub find-number : (s list q : List ℕ) (n at : ℕ) → FindOffset s list q n at → (1 ≤ n) × (n ≤ 12)
+find-number s list q _ _ (as-read n at o) = let r : (1 ≤ n) × (n ≤ 11) = read-number s list n at o in (omega arith, omega arith)
+find-number s list q _ _ (in-query at o) = (omega arith, omega arith)
+
+no-query : (s list : List ℕ) (n at : ℕ) → OrRoom (ReadOffset s list) n at → n ≡ 12 → ⊥
+no-query s list _ _ (room-aside n at o) h = let r : (1 ≤ n) × (n ≤ 11) = read-number s list n at o in omega arith
+no-query s list _ _ no-room h = omega arith
+
+pub by-number : ByNumber
+by-number = record {
+  reader = λ records entries s list n at e.
+      let o : OrRoom (ReadOffset s list) n at = offsets .reader records entries s list n at e in
+      (either-said s list [] (ReadOffset s list) (read-said s list []) n at o, no-query s list n at o);
+  rewriter = λ room s list n at e.
+      let o : OrRoom (ReadOffset s list) n at = offsets .rewriter room s list n at e in
+      (either-said s list [] (ReadOffset s list) (read-said s list []) n at o, no-query s list n at o);
+  finder = λ records hits s list q n at e. either-said s list q (FindOffset s list q) (find-said s list q) n at (offsets .finder records hits s list q n at e);
+  judge = λ s list n at e.
+      let o : ReadOffset s list n at = offsets .judges s list n at e in
+      (read-said s list [] n at o, read-number s list n at o .1);
+}

@@ -1,0 +1,214 @@
+-- Where a place has what is said of the place of a refusal, the refusal is there.
+use Prim.Native.Nat.{ℕ, zero, suc, _+_, _-_, _<_, _≤_}
+use native.Mathlib.Omega.{arith}
+use mathlib.Core.Bool.{Bool, true, false}
+use mathlib.Core.List.{List, [], _∷_, _++_, append-assoc, append-nil}
+use mathlib.Core.Logic.{_⊎_, inl, inr}
+use mathlib.Core.Path.{_≡_, refl, sym, ap, subst, _∙_}
+use borrow.Author.Tests.{eqb-true, eqb-false, ltb-true, ltb-false, le-ltb}
+use lib.Dec.{ltb}
+use lib.ListN.{length, take, drop, getD, length-drop, take-append-drop, List·getD-eq-default}
+use lib.Seq.{getD-drop, take-take}
+use Rattle.rules.specs.Bytes.{is, isWhite, span, oneLine}
+use Rattle.rules.specs.Act.{Cmd}
+use Rattle.rules.specs.Scan.{letter, got, bad, Scan, command, commands}
+use Rattle.rules.specs.Widths.{linesFrom, Widths, WidthList, unsound, sound, widthList}
+use Rattle.rules.specs.State.{Env, start, Glyph, Item, refused}
+use Rattle.rules.specs.Record.{Answer, refuse, afterRows, glyphRows, itemRows, follow}
+use Rattle.rules.specs.Find.{Wanted, queryLines, Query, illFormed, wellFormed, query}
+use Rattle.rules.specs.Answers.{read}
+use Rattle.laws.proofs.Cases.{on, no}
+use Rattle.laws_scan.proofs.Walk.{from, from-end, from-white, from-comment, from-bad, from-got}
+use Rattle.laws_find.specs.Written.{gapLine}
+use Rattle.laws_offsets.specs.Stream.{byteAt, behindAt, commandAt, FirstByte, ReadTo, from-start, past-white, past-comment, past-command, Fault, as-written, as-done, behind-stop, StreamOffset, at-command, at-end}
+use Rattle.laws_offsets.specs.Lists.{LineStart, first-line, behind-newline, lineEnd, WrongAt, unended, wrong-line, missing, ListOffset, AskedWrongAt, empty, unended-line, wrong-asked, last-gap, QueryOffset}
+use Rattle.laws_offsets.specs.Offsets.{Exactly}
+use Rattle.laws_offsets.proofs.ByNumber.{start-inside}
+use Rattle.laws_offsets.proofs.Widths as W
+use Rattle.laws_offsets.proofs.Query as Q
+
+-- ---- lists
+
+-- no newline before the end of a line
+no-newline : (r : List ℕ) (i : ℕ) → i < oneLine r → getD r i 0 ≡ 10 → ⊥
+unfolding span
+no-newline [] i h e = omega arith
+no-newline (b ∷ r) zero h e = on (is "\n" b) (λ k. let z : 0 < 0 = rw k at h in omega arith) (λ k. eqb-false b 10 k e)
+no-newline (b ∷ r) (suc i) h e =
+    on (is "\n" b) (λ k. let z : suc i < 0 = rw k at h in omega arith) (λ k. no-newline r i (let z : suc i < suc (oneLine r) = rw k at h in omega arith) e)
+
+-- a line that starts further on starts behind this one
+start-behind : (t : List ℕ) (a b : ℕ) → LineStart t b → a < b → lineEnd t a < b
+start-behind t a _ first-line h = absurd (omega arith)
+start-behind t a _ (behind-newline p l e) h =
+    on (ltb p (lineEnd t a))
+    (λ k. absurd (no-newline (drop a t) (p - a) (omega (arith, ltb-true p (lineEnd t a) k)) (getD-drop a t (p - a) 0 ∙ ap (λ (i : ℕ). getD t i 0) (let z : a + (p - a) ≡ p = omega arith in z) ∙ e)))
+    (λ k. omega (arith, ltb-false p (lineEnd t a) k))
+
+-- Where a line is wrong, whatever stands behind it, none behind it is the first wrong one. g has the place of a text's refusal.
+clash : (g : List ℕ → ℕ) (t : List ℕ) (a b : ℕ) → LineStart t b → a < b → ((m : List ℕ) → g (take (lineEnd t a + 1) t ++ m) ≡ a)
+    → ((m : List ℕ) → g (take b t ++ 10 ∷ m) ≡ b) → ⊥
+clash g t a b l h f k =
+    let n : ℕ = lineEnd t a + 1 in
+    let z : n ≤ b = omega (arith, start-behind t a b l h) in
+    let e : take n t ++ drop n (take b t) ≡ take b t = ap (λ (u : List ℕ). u ++ drop n (take b t)) (sym (take-take n b t z)) ∙ take-append-drop n (take b t) in
+    let w : g (take b t ++ 10 ∷ []) ≡ a = ap g (ap (λ (u : List ℕ). u ++ 10 ∷ []) (sym e) ∙ append-assoc (take n t) (drop n (take b t)) (10 ∷ [])) ∙ f (drop n (take b t) ++ 10 ∷ []) in
+    let y : a ≡ b = sym w ∙ k [] in
+    omega arith
+
+-- one place where none is before another
+one-place : (a b : ℕ) → (a < b → ⊥) → (b < a → ⊥) → a ≡ b
+one-place a b f g =
+    on (ltb a b) (λ h. absurd (f (ltb-true a b h)))
+    (λ h. on (ltb b a) (λ k. absurd (g (ltb-true b a k))) (λ k. omega (arith, ltb-false a b h, ltb-false b a k)))
+
+abbrev listPlace : WidthList → ℕ
+listPlace (unsound at) = at
+listPlace (sound w) = 0
+
+list-order : (list : List ℕ) (a b : ℕ) → ListOffset list a → ListOffset list b → a < b → ⊥
+list-order list a b x y h = go (x .here)
+  where
+    go : WrongAt list a → ⊥
+    go (unended i e) = omega (arith, start-behind list a b (y .line) h, start-inside list b (y .line))
+    go (wrong-line i f) = clash (λ t. listPlace (widthList t)) list a b (y .line) h (λ m. ap listPlace (f m)) (λ m. ap listPlace (y .first m))
+    go (missing e n t w l s) = omega (arith, start-inside list b (y .line))
+
+-- what stands up to behind a line, and what stands behind that
+whole-by : (t : List ℕ) (k : ℕ) (P : List ℕ → Type 0) → ((m : List ℕ) → P (take k t ++ m)) → P t
+whole-by t k P f = subst P (take-append-drop k t) (f (drop k t))
+
+list-refused : (list : List ℕ) (at : ℕ) → ListOffset list at → widthList list ≡ unsound at
+list-refused list at x = go (widthList list) refl (W.list-claim list)
+  where
+    not-sound : (w : Widths) → widthList list ≡ sound w → LineStart list (length list) → WrongAt list at → ⊥
+    not-sound w e c (unended i l) = omega (arith, start-behind list at (length list) c i)
+    not-sound w e c (wrong-line i f) = no (ap W.isSound (sym (whole-by list (lineEnd list at + 1) (λ t. widthList t ≡ unsound at) f) ∙ e))
+    not-sound w e c (missing z n t v l s) = n w e
+
+    go : (a : WidthList) → widthList list ≡ a → W.Claim list a → widthList list ≡ unsound at
+    go (unsound p) e c = e ∙ ap unsound (one-place p at (list-order list p at c x) (list-order list at p x c))
+    go (sound w) e c = absurd (not-sound w e c (x .here))
+
+abbrev queryPlace : Query → ℕ
+queryPlace (illFormed at) = at
+queryPlace (wellFormed qs) = 0
+
+gap-length : (q : List ℕ) (a : ℕ) → drop a q ≡ gapLine → a + 8 ≡ length q
+gap-length q a e = omega (arith, sym (length-drop a q) ∙ ap length e)
+
+query-inside : (q : List ℕ) (at : ℕ) → QueryOffset q at → (q ≡ []) ⊎ (at < length q)
+query-inside q at x = go (x .here)
+  where
+    go : AskedWrongAt q at → (q ≡ []) ⊎ (at < length q)
+    go (empty e z) = inl e
+    go (unended-line i e) = inr i
+    go (wrong-asked i f) = inr (omega arith)
+    go (last-gap e qs f) = inr (omega (arith, gap-length q at e))
+
+query-order : (q : List ℕ) (a b : ℕ) → QueryOffset q a → QueryOffset q b → a < b → ⊥
+unfolding span
+query-order q a b x y h = go (x .here) (query-inside q b y)
+  where
+    go : AskedWrongAt q a → (q ≡ []) ⊎ (b < length q) → ⊥
+    go w (inl e) = omega (arith, start-inside q b (y .line), ap length e)
+    go (empty e z) (inr i) = omega (arith, ap length e)
+    go (unended-line k e) (inr i) = omega (arith, start-behind q a b (y .line) h)
+    go (wrong-asked k f) (inr i) = clash (λ t. queryPlace (query t)) q a b (y .line) h (λ m. ap queryPlace (f m)) (λ m. ap queryPlace (y .first m))
+    go (last-gap e qs f) (inr i) = omega (arith, gap-length q a e, start-behind q a b (y .line) h, ap oneLine e)
+
+abbrev isWell : Query → Bool
+isWell (illFormed at) = false
+isWell (wellFormed qs) = true
+
+query-refused : (q : List ℕ) (at : ℕ) → QueryOffset q at → query q ≡ illFormed at
+unfolding query queryLines linesFrom
+query-refused q at x = go (query q) refl (Q.query-claim q)
+  where
+    gap-behind : (qs : List Wanted) → query (take at q) ≡ wellFormed qs → query (take at q ++ gapLine) ≡ illFormed (length (take at q))
+    gap-behind qs e = let c : Q.Claim (take at q) (wellFormed qs) = rw e at (Q.query-claim (take at q)) in Q.gap-last (take at q) (c .0) (c .1)
+
+    not-well : (qs : List Wanted) → query q ≡ wellFormed qs → LineStart q (length q) → AskedWrongAt q at → ⊥
+    not-well qs e c (empty z y) = no (ap isWell (ap query (sym z) ∙ e))
+    not-well qs e c (unended-line i l) = omega (arith, start-behind q at (length q) c i)
+    not-well qs e c (wrong-asked i f) = no (ap isWell (sym (whole-by q (lineEnd q at + 1) (λ t. query t ≡ illFormed at) f) ∙ e))
+    not-well qs e c (last-gap z ws f) =
+        no (ap isWell (sym (gap-behind ws f) ∙ ap (λ (u : List ℕ). query (take at q ++ u)) (sym z) ∙ ap query (take-append-drop at q) ∙ e))
+
+    go : (a : Query) → query q ≡ a → Q.Claim q a → query q ≡ illFormed at
+    go (illFormed p) e c = e ∙ ap illFormed (one-place p at (query-order q p at c x) (query-order q at p x c))
+    go (wellFormed qs) e c = absurd (not-well qs e (rw append-nil at (c .1 .start [])) (x .here))
+
+-- ---- streams
+
+-- whitespace and `#` begin no command
+white-bad : (b : ℕ) (r : List ℕ) → isWhite b ≡ true → command b r ≡ bad 3 0
+unfolding letter
+white-bad b r h =
+    on (is " " b) (λ e. rw (eqb-true b 32 e))
+    (λ e. on (is "\t" b) (λ f. rw (eqb-true b 9 f))
+    (λ f. rw (eqb-true b 10 (rw (e, f) at h))))
+
+hash-bad : (b : ℕ) (r : List ℕ) → is "#" b ≡ true → command b r ≡ bad 3 0
+unfolding letter
+hash-bad b r h = rw (eqb-true b 35 h)
+
+abbrev isGot : Scan → Bool
+isGot (bad n k) = false
+isGot (got c a l) = true
+
+got-no : (p : Bool) (x : Scan) (c : Cmd) (a l : ℕ) → x ≡ got c a l → (p ≡ true → x ≡ bad 3 0) → p ≡ false
+got-no p x c a l e f = on p (λ h. no (ap isGot (sym (f h) ∙ e))) (λ h. h)
+
+module _ (w : Widths) (s : List ℕ) where
+  -- a byte that passes a test that 0 does not pass is one of the stream's
+  inside-of : (p : ℕ → Bool) (at : ℕ) → p 0 ≡ false → p (byteAt s at) ≡ true → at < length s
+  inside-of p at z h =
+      on (ltb at (length s)) (λ k. ltb-true at (length s) k)
+      (λ k. no (sym z ∙ ap p (sym (List·getD-eq-default s 0 (ltb-false at (length s) k))) ∙ h))
+
+  got-inside : (at : ℕ) (c : Cmd) (a l : ℕ) → commandAt s at ≡ got c a l → at < length s
+  unfolding letter
+  got-inside at c a l e =
+      on (ltb at (length s)) (λ k. ltb-true at (length s) k)
+      (λ k. no (ap isGot (sym (let z : command (byteAt s at) (behindAt s at) ≡ bad 3 0 = rw (List·getD-eq-default s 0 (ltb-false at (length s) k)) in z) ∙ e)))
+
+  after-refuse : (x : Answer) (gs : List Glyph) (xs : List Item) (at a l n p : ℕ) → x ≡ refuse n p → afterRows (glyphRows a gs) (itemRows at l xs) x ≡ refuse n p
+  after-refuse x gs xs at a l n p e = rw e
+
+  -- what is refused from a place on is refused from the start
+  carried : (at : ℕ) (e : Env) → ReadTo w s at e → (n p : ℕ) → follow w e (from s at) ≡ refuse n p → follow w start (commands 0 0 s) ≡ refuse n p
+  unfolding follow
+  carried _ _ from-start n p f = f
+  carried _ _ (past-white at e h q) n p f = carried at e h n p (rw (from-white s at (inside-of isWhite at refl q) q) f)
+  carried _ _ (past-comment at e h q) n p f =
+      let k : isWhite (byteAt s at) ≡ false = rw (eqb-true (byteAt s at) 35 q) in
+      carried at e h n p (rw (from-comment s at (inside-of (λ b. is "#" b) at refl q) k q (at + 1 + oneLine (behindAt s at)) refl) f)
+  carried _ _ (past-command at e d c a l gs xs h q r) n p f =
+      let i : at < length s = got-inside at c a l q in
+      let k : isWhite (byteAt s at) ≡ false = got-no (isWhite (byteAt s at)) (commandAt s at) c a l q (white-bad (byteAt s at) (behindAt s at)) in
+      let j : is "#" (byteAt s at) ≡ false = got-no (is "#" (byteAt s at)) (commandAt s at) c a l q (hash-bad (byteAt s at) (behindAt s at)) in
+      carried at e h n p (rw (from-got s at i k j c a l q, r) (after-refuse (follow w d (from s (at + l))) gs xs at (at + a) l n p f))
+
+  fault-refused : (at : ℕ) (e : Env) (n : ℕ) → FirstByte s at → Fault w s at e n → follow w e (from s at) ≡ refuse n at
+  unfolding follow
+  fault-refused at e _ b (as-written n k p q lo hi) = rw (from-bad s at (b .inside) (b .no-white) (b .no-comment) n k p, q)
+  fault-refused at e _ b (as-done n c a l p q lo hi) = rw (from-got s at (b .inside) (b .no-white) (b .no-comment) c a l p, q)
+  fault-refused at e _ b (behind-stop n k p q) = rw (from-bad s at (b .inside) (b .no-white) (b .no-comment) n k p, q)
+
+  stream-refused : (n at : ℕ) → StreamOffset w s n at → follow w start (commands 0 0 s) ≡ refuse n at
+  unfolding follow
+  stream-refused _ _ (at-command n at f) = carried at (f .env) (f .read-to) n at (fault-refused at (f .env) n (f .first) (f .fault))
+  stream-refused _ _ (at-end e h q) = carried (length s) e h 11 (length s) (rw (from-end s (length s) (omega arith), q))
+
+read-refused : (s list : List ℕ) (w : Widths) (n at : ℕ) → length s ≤ 16_777_216 → length list ≤ 65_536 → widthList list ≡ sound w → StreamOffset w s n at → read s list ≡ refuse n at
+unfolding read
+read-refused s list w n at h k e o = rw (le-ltb 16_777_216 (length s) h, le-ltb 65_536 (length list) k, e) (stream-refused w s n at o)
+
+pub exactly : Exactly
+exactly = record {
+  stream = read-refused;
+  list = list-refused;
+  query = query-refused;
+  query-inside = query-inside;
+}

@@ -1,0 +1,287 @@
+-- The numbers of a stream's refusals: 3 to 6 as a command is written, 7 to 10 by what it does, 7 behind `x s`.
+use Prim.Native.Nat.{ℕ, _+_, _*_, _-_, _≤_}
+use native.Mathlib.Omega.{arith}
+use mathlib.Core.Bool.{true, false}
+use mathlib.Core.List.{List, [], _∷_, _++_, map}
+use mathlib.Core.Option.{Option, none, some}
+use mathlib.Core.Path.{_≡_}
+use borrow.Author.Tests.{eqb-true}
+use lib.Dec.{ltb, eqb}
+use lib.ListN.{length, drop}
+use Rattle.rules.specs.Bytes.{is, isWhite, isDigit, spacer, unspaced, string, origin, moved, Nums, short, nums, integers, manyIntegers, perhapsInteger}
+use Rattle.rules.specs.Act.{across, down, Scheme, Shape, colourFill, Plain, pause, trailer, height, slant, underline, Act, glyph, index, to, by, page, font, size, colour, break, space, draw, device, resolution, init, file, mount, plain, raw, stop, Cmd, just, word, pair}
+use Rattle.rules.specs.Letters.{Draft, fault, draft, withOne, withAll, ignoring, oneByte, named, numberNamed, followedByWhite, withDummy, secondDigit, schemeOf, components, inScheme, coloured}
+use Rattle.rules.specs.Drawing.{lineEnds, closed, shapeOf, Form, exactly, dummied, paired, formOf, inPairs, dummyBehind, drawn, inShape, drawing, wayOf}
+use Rattle.rules.specs.Controls.{alone, resolutionOf, plainCount, plainly, control, controlWord}
+use Rattle.rules.specs.Scan.{letter, cmdLimits, isSmall, outside, judgedBy, judged, command, Scan, got, bad}
+use Rattle.rules.specs.Widths.{Widths, Font, widthOf}
+use Rattle.rules.specs.State.{get, fits, mayGo, Env, Glyph, Item, Step, refused, went, before, andThen, onPage, due, withFont, recorded, indexed, mountedAt, isMounted, effect, act, run, Acts, noActs, these, ready, byteActs, wordActs, wordIn, acts, perform, inBody, stopped}
+use Rattle.laws.proofs.Cases.{if-both}
+
+abbrev pub FromTo : ℕ → ℕ → ℕ → Type 0
+FromTo lo hi n = (lo ≤ n) × (n ≤ hi)
+
+-- ---- one command: 3, 4 or 5 by its letter, and 6
+
+abbrev FaultIn : Draft → Type 0
+FaultIn (fault n) = FromTo 3 5 n
+FaultIn (draft c ds ks a l t) = Unit {0}
+
+closed-in : (x : Draft) → FaultIn x → FaultIn (closed x)
+closed-in (fault n) h = h
+closed-in (draft c ds ks a l t) h = if-both FaultIn (lineEnds t) (draft c ds ks a l t) (fault 5) tt (omega arith)
+
+ignoring-in : (x : Draft) (y : Nums) → FaultIn x → FaultIn (ignoring x y)
+ignoring-in (fault n) y h = h
+ignoring-in (draft c ds ks a l t) short h = omega arith
+ignoring-in (draft c ds ks a l t) (nums ns js k s) h = tt
+
+dummy-in : (x : Draft) → FaultIn x → FaultIn (withDummy x)
+dummy-in (fault n) h = h
+dummy-in (draft c ds ks a l t) h = ignoring-in (draft c ds ks a l t) (followedByWhite (perhapsInteger l t)) tt
+
+behind-in : (x : Draft) → FaultIn x → FaultIn (dummyBehind x)
+behind-in (fault n) h = h
+behind-in (draft c ds ks a l t) h = ignoring-in (draft c ds ks a l t) (perhapsInteger l t) tt
+
+named-in : (f : List ℕ → Cmd) (ks : List ℕ) (k : ℕ) (r : List ℕ) → FaultIn (named f ks k r)
+unfolding named
+named-in f ks k r = if-both FaultIn (eqb (string (unspaced r)) 0) (fault 4) _ (omega arith) tt
+
+numberNamed-in : (f : ℕ → List ℕ → Cmd) (x : Nums) → FaultIn (numberNamed f x)
+numberNamed-in f short = omega arith
+numberNamed-in f (nums [] ks l t) = omega arith
+numberNamed-in f (nums (n ∷ ns) ks l t) = named-in (f (moved n)) ks l t
+
+byte-in : (f : ℕ → Cmd) (k : ℕ) (r : List ℕ) → FaultIn (oneByte f k r)
+byte-in f k [] = omega arith
+byte-in f k (b ∷ r) = if-both FaultIn (isWhite b) (fault 4) _ (omega arith) tt
+
+digit-in : (b k : ℕ) (r : List ℕ) → FaultIn (secondDigit b k r)
+digit-in b k [] = omega arith
+digit-in b k (c ∷ r) =
+    if-both FaultIn (isDigit c) _ (fault 4) (byte-in (pair (origin + ((b - 48) * 10 + (c - 48)))) (k + 1 + spacer r) (unspaced r)) (omega arith)
+
+one-in : (f : ℕ → Act) (x : Nums) → FaultIn (withOne f x)
+one-in f short = omega arith
+one-in f (nums [] ks l t) = omega arith
+one-in f (nums (n ∷ ns) ks l t) = tt
+
+all-in : (f : List ℕ → Act) (x : Nums) → FaultIn (withAll f x)
+all-in f short = omega arith
+all-in f (nums ns ks l t) = tt
+
+coloured-in : (f : Scheme → List ℕ → Act) (k : ℕ) (r : List ℕ) → FaultIn (coloured f k r)
+coloured-in f k [] = omega arith
+coloured-in f k (b ∷ r) = go (schemeOf b)
+  where
+    go : (o : Option Scheme) → FaultIn (inScheme f (k + 1) r o)
+    go none = omega arith
+    go (some c) = all-in (f c) (integers (components c) (k + 1) r)
+
+drawn-in : (s : Shape) (k : ℕ) (r : List ℕ) (f : Form) → FaultIn (drawn s k r f)
+drawn-in s k r (exactly n) = all-in (draw s) (integers n k r)
+drawn-in s k r dummied = behind-in (withAll (draw s) (integers 1 k r)) (all-in (draw s) (integers 1 k r))
+drawn-in s k r paired = all-in (draw s) (inPairs (manyIntegers (length r) k r))
+
+drawing-in : (k : ℕ) (r : List ℕ) → FaultIn (drawing k r)
+unfolding drawing
+drawing-in k [] = omega arith
+drawing-in k (b ∷ r) = if-both FaultIn (is "F" b) _ _ (coloured-in (λ c. draw (colourFill c)) (k + 1 + spacer r) (unspaced r)) (go (shapeOf b))
+  where
+    go : (o : Option Shape) → FaultIn (inShape (k + 1) r o)
+    go none = omega arith
+    go (some s) = drawn-in s (k + 1) r (formOf s)
+
+resolution-in : (x : Nums) → FaultIn (resolutionOf x)
+resolution-in short = omega arith
+resolution-in (nums [] ks l t) = omega arith
+resolution-in (nums (n ∷ []) ks l t) = omega arith
+resolution-in (nums (n ∷ h ∷ []) ks l t) = omega arith
+resolution-in (nums (n ∷ h ∷ v ∷ more) ks l t) = tt
+
+name-in : (f : List ℕ → Act) (k : ℕ) (r : List ℕ) → FaultIn (closed (named (λ n. just (f n)) [] k r))
+name-in f k r = closed-in (named (λ n. just (f n)) [] k r) (named-in (λ n. just (f n)) [] k r)
+
+plain-in : (c : Plain) (k : ℕ) (r : List ℕ) → FaultIn (closed (plainly c k r))
+plain-in c k r = closed-in (plainly c k r) (all-in (plain c) (integers (plainCount c) k r))
+
+control-in : (b k : ℕ) (r : List ℕ) → FaultIn (control b k r)
+unfolding control
+control-in b k r =
+    if-both FaultIn (is "T" b) _ _ (name-in device k r)
+    (if-both FaultIn (is "r" b) _ _ (closed-in (resolutionOf (integers 3 k r)) (resolution-in (integers 3 k r)))
+    (if-both FaultIn (is "i" b) _ _ (closed-in (alone init k r) tt)
+    (if-both FaultIn (is "F" b) _ _ (name-in file k r)
+    (if-both FaultIn (is "f" b) _ _ (closed-in (numberNamed (λ n m. just (mount n m)) (integers 1 k r)) (numberNamed-in (λ n m. just (mount n m)) (integers 1 k r)))
+    (if-both FaultIn (is "H" b) _ _ (plain-in height k r)
+    (if-both FaultIn (is "S" b) _ _ (plain-in slant k r)
+    (if-both FaultIn (is "p" b) _ _ (plain-in pause k r)
+    (if-both FaultIn (is "t" b) _ _ (plain-in trailer k r)
+    (if-both FaultIn (is "u" b) _ _ (plain-in underline k r)
+    (if-both FaultIn (is "s" b) _ _ (closed-in (alone stop k r) tt)
+    (if-both FaultIn (is "X" b) _ _ tt (omega arith))))))))))))
+
+word-in : (k : ℕ) (r : List ℕ) → FaultIn (controlWord k r)
+word-in k [] = omega arith
+word-in k (b ∷ r) = if-both FaultIn (isWhite b) (fault 3) _ (omega arith) (control-in b (k + 1 + string r) (drop (string r) r))
+
+letter-in : (b : ℕ) (r : List ℕ) → FaultIn (letter b r)
+unfolding letter
+letter-in b r =
+    let one : (f : ℕ → Act) → FaultIn (withOne f (integers 1 1 r)) = λ f. one-in f (integers 1 1 r) in
+    if-both FaultIn (is "c" b) _ _ (byte-in (λ x. just (glyph (x ∷ []))) (1 + spacer r) (unspaced r))
+    (if-both FaultIn (is "C" b) _ _ (named-in (λ n. just (glyph n)) [] 1 r)
+    (if-both FaultIn (is "N" b) _ _ (one index)
+    (if-both FaultIn (is "t" b) _ _ (dummy-in (named (word origin) (1 ∷ []) 1 r) (named-in (word origin) (1 ∷ []) 1 r))
+    (if-both FaultIn (is "u" b) _ _ (dummy-in (numberNamed word (integers 1 1 r)) (numberNamed-in word (integers 1 1 r)))
+    (if-both FaultIn (is "H" b) _ _ (one (to across))
+    (if-both FaultIn (is "h" b) _ _ (one (by across))
+    (if-both FaultIn (is "V" b) _ _ (one (to down))
+    (if-both FaultIn (is "v" b) _ _ (one (by down))
+    (if-both FaultIn (is "p" b) _ _ (one page)
+    (if-both FaultIn (is "f" b) _ _ (one font)
+    (if-both FaultIn (is "s" b) _ _ (one size)
+    (if-both FaultIn (is "m" b) _ _ (coloured-in colour (1 + spacer r) (unspaced r))
+    (if-both FaultIn (is "n" b) _ _ (ignoring-in (draft (just break) [] [] 0 1 r) (integers 2 1 r) tt)
+    (if-both FaultIn (is "w" b) _ _ tt
+    (if-both FaultIn (is "D" b) _ _ (closed-in (drawing (1 + spacer r) (unspaced r)) (drawing-in (1 + spacer r) (unspaced r)))
+    (if-both FaultIn (is "x" b) _ _ (word-in (1 + spacer r) (unspaced r))
+    (if-both FaultIn (isDigit b) _ _ (digit-in b (1 + spacer r) (unspaced r)) (omega arith))))))))))))))))))
+
+abbrev pub ScanIn : Scan → Type 0
+ScanIn (bad n k) = FromTo 3 6 n
+ScanIn (got c a l) = Unit {0}
+
+judged-in : (x : Draft) → FaultIn x → ScanIn (judged x)
+judged-in (fault n) h = omega (arith, h)
+judged-in (draft c ds ks a l t) h = go (outside (cmdLimits c ++ map isSmall ds) ks)
+  where
+    go : (o : Option ℕ) → ScanIn (judgedBy c a l o)
+    go none = tt
+    go (some k) = omega arith
+
+pub command-in : (b : ℕ) (r : List ℕ) → ScanIn (command b r)
+command-in b r = judged-in (letter b r) (letter-in b r)
+
+-- ---- what a command does: 7 to 10
+
+abbrev pub StepIn : Step → Type 0
+StepIn (refused n) = FromTo 7 10 n
+StepIn (went e gs xs) = Unit {0}
+
+font-in : (e : Env) (go : ℕ → Step) (o : Option ℕ) → ((f : ℕ) → StepIn (go f)) → StepIn (withFont e go o)
+font-in e go none h = omega arith
+font-in e go (some f) h = if-both StepIn (ltb 0 (e .size)) (go f) (refused 8) (h f) (omega arith)
+
+effect-in : (e : Env) (a : Act) → StepIn (effect e a)
+effect-in e (glyph n) = font-in e (recorded e n 0) (e .font) (λ f. tt)
+effect-in e (index n) = font-in e (indexed e n) (e .font) (λ f. if-both StepIn (ltb n origin) _ _ tt tt)
+effect-in e (to x n) = tt
+effect-in e (by x n) = if-both StepIn (fits (get x (e .spot)) n) _ (refused 10) tt (omega arith)
+effect-in e (page n) = tt
+effect-in e (font n) = if-both StepIn (isMounted (mountedAt (n - origin) (e .mounts))) _ (refused 8) tt (omega arith)
+effect-in e (size n) = tt
+effect-in e (colour c ns) = tt
+effect-in e break = tt
+effect-in e space = tt
+effect-in e (draw s ns) = if-both StepIn (mayGo (e .spot) (wayOf s ns)) _ (refused 10) tt (omega arith)
+effect-in e (device n) = tt
+effect-in e (resolution n h v) = tt
+effect-in e init = tt
+effect-in e (file n) = tt
+effect-in e (mount n m) = tt
+effect-in e (plain c ns) = tt
+effect-in e (raw t) = tt
+effect-in e stop = tt
+
+act-in : (e : Env) (a : Act) → StepIn (act e a)
+unfolding act
+act-in e a = if-both StepIn (due e a) (effect e a) (refused 7) (effect-in e a) (omega arith)
+
+before-in : (gs : List Glyph) (xs : List Item) (x : Step) → StepIn x → StepIn (before gs xs x)
+before-in gs xs (refused n) h = h
+before-in gs xs (went e gs′ xs′) h = tt
+
+then-in : (x : Step) (go : Env → Step) → StepIn x → ((e : Env) → StepIn (go e)) → StepIn (andThen x go)
+then-in (refused n) go h f = h
+then-in (went e gs xs) go h f = before-in gs xs (go e) (f e)
+
+run-in : (xs : List Act) (e : Env) → StepIn (run e xs)
+unfolding run
+run-in [] e = tt
+run-in (a ∷ xs) e = then-in (act e a) (λ e′. run e′ xs) (act-in e a) (λ e′. run-in xs e′)
+
+abbrev ActsIn : Acts → Type 0
+ActsIn (noActs n) = FromTo 7 10 n
+ActsIn (these xs) = Unit {0}
+
+ready-in : (e : Env) (go : ℕ → Acts) (o : Option ℕ) → ((f : ℕ) → ActsIn (go f)) → ActsIn (ready e go o)
+ready-in e go none h = if-both ActsIn (onPage e) (noActs 8) (noActs 7) (omega arith) (omega arith)
+ready-in e go (some f) h = if-both ActsIn (onPage e) _ (noActs 7) (if-both ActsIn (ltb 0 (e .size)) (go f) (noActs 8) (h f) (omega arith)) (omega arith)
+
+byteActs-in : (b : ℕ) (far : ℕ → ℕ) (o : Option ℕ) (more : Acts) → ActsIn more → ActsIn (byteActs b far o more)
+byteActs-in b far none more h = omega arith
+byteActs-in b far (some w) (noActs n) h = h
+byteActs-in b far (some w) (these xs) h = tt
+
+wordActs-in : (fs : List Font) (name : List ℕ) (far : ℕ → ℕ) (bs : List ℕ) → ActsIn (wordActs fs name far bs)
+unfolding wordActs
+wordActs-in fs name far [] = tt
+wordActs-in fs name far (b ∷ bs) = byteActs-in b far (widthOf name b fs) (wordActs fs name far bs) (wordActs-in fs name far bs)
+
+acts-in : (w : Widths) (e : Env) (c : Cmd) → ActsIn (acts w e c)
+acts-in w e (just a) = tt
+acts-in w e (word n bs) = ready-in e (wordIn w e n bs) (e .font) (λ f. wordActs-in _ _ _ bs)
+acts-in w e (pair n b) = ready-in e (λ f. these (by across n ∷ glyph (b ∷ []) ∷ [])) (e .font) (λ f. tt)
+
+perform-in : (e : Env) (x : Acts) → ActsIn x → StepIn (perform e x)
+perform-in e (noActs n) h = h
+perform-in e (these xs) h = run-in xs e
+
+-- what a command does in an environment
+pub step-in : (w : Widths) (e : Env) (c : Cmd) → StepIn (perform e (acts w e c))
+step-in w e c = perform-in e (acts w e c) (acts-in w e c)
+
+-- ---- behind `x s`: 7, whatever stands there
+
+module _ (e : Env) (h : stopped e ≡ true) where
+  phase-4 : e .phase ≡ 4
+  phase-4 = eqb-true (e .phase) 4 h
+
+  no-body : inBody e ≡ false
+  no-body = rw phase-4
+
+  no-page : onPage e ≡ false
+  no-page = rw no-body
+
+  never-due : (a : Act) → due e a ≡ false
+  never-due (glyph n) = no-page
+  never-due (index n) = no-page
+  never-due (to x n) = no-page
+  never-due (by x n) = no-page
+  never-due (page n) = no-body
+  never-due (font n) = no-body
+  never-due (size n) = no-body
+  never-due (colour c ns) = no-body
+  never-due break = no-body
+  never-due space = no-body
+  never-due (draw s ns) = no-page
+  never-due (device n) = rw phase-4
+  never-due (resolution n k v) = rw phase-4
+  never-due init = rw phase-4
+  never-due (file n) = no-body
+  never-due (mount n m) = no-body
+  never-due (plain c ns) = no-body
+  never-due (raw t) = no-body
+  never-due stop = no-body
+
+  not-ready : (go : ℕ → Acts) (o : Option ℕ) → ready e go o ≡ noActs 7
+  not-ready go none = rw no-page
+  not-ready go (some f) = rw no-page
+
+  pub stopped-7 : (w : Widths) (c : Cmd) → perform e (acts w e c) ≡ refused 7
+  unfolding run act
+  stopped-7 w (just a) = rw (never-due a)
+  stopped-7 w (word n bs) = rw (not-ready (wordIn w e n bs) (e .font))
+  stopped-7 w (pair n b) = rw (not-ready (λ f. these (by across n ∷ glyph (b ∷ []) ∷ [])) (e .font))

@@ -1,0 +1,129 @@
+-- Every refusal's number is one of the table's, and its offset is what the table says of that number.
+use Prim.Native.Nat.{ℕ}
+use mathlib.Core.Bool.{_||_}
+use mathlib.Core.List.{List}
+use mathlib.Core.Path.{_≡_, refl, subst}
+use lib.Dec.{ltb}
+use lib.ListN.{length}
+use Rattle.rules.specs.declared.Judging.{Judging}
+use Rattle.rules.specs.declared.Judging.the-variants as J
+use Rattle.rules.specs.Scan.{commands}
+use Rattle.rules.specs.Widths.{Widths, WidthList, unsound, sound, widthList}
+use Rattle.rules.specs.State.{start}
+use Rattle.rules.specs.Record.{Answer, refuse, answer, follow}
+use Rattle.rules.specs.Find.{Wanted, Query, illFormed, wellFormed, query}
+use Rattle.rules.specs.Answers.{streamMost, isOver, readWith, read, roomFor, readInto, Spelling, notSpelled, spelled, spellIf, spellWith, respell, spellingIn, respellInto, Found, notFound, found, hitsIn, findAsked, findWith, find, foundIn, findInto, judgingOf, judge}
+use Rattle.laws.proofs.Cases.{if-both}
+use Rattle.laws_offsets.specs.Offsets.{ReadOffset, too-long, in-list, in-stream, FindOffset, as-read, in-query, OrRoom, room-aside, no-room, Offsets}
+use Rattle.laws_offsets.proofs.Stream as P
+use Rattle.laws_offsets.proofs.Widths as W
+use Rattle.laws_offsets.proofs.Query as Q
+
+-- a refusal of each answer
+abbrev AnswerIn : (ℕ → ℕ → Type 0) → Answer → Type 0
+AnswerIn P (refuse n at) = P n at
+AnswerIn P (answer rs xs e) = Unit {0}
+
+abbrev SpellingIn : (ℕ → ℕ → Type 0) → Spelling → Type 0
+SpellingIn P (notSpelled n at) = P n at
+SpellingIn P (spelled t) = Unit {0}
+
+abbrev FoundIn : (ℕ → ℕ → Type 0) → Found → Type 0
+FoundIn P (notFound n at) = P n at
+FoundIn P (found rs xs) = Unit {0}
+
+abbrev JudgingIn : (ℕ → ℕ → Type 0) → Judging → Type 0
+JudgingIn P (J.Refused n at) = P n at
+JudgingIn P (J.Accepted r x p t) = Unit {0}
+
+-- ---- the reader
+
+module _ (s list : List ℕ) where
+  stream-in : (w : Widths) → widthList list ≡ sound w → AnswerIn (ReadOffset s list) (follow w start (commands 0 0 s))
+  stream-in w e = go (follow w start (commands 0 0 s)) (P.points w s)
+    where
+      go : (x : Answer) → P.Points w s x → AnswerIn (ReadOffset s list) x
+      go (refuse n at) h = in-stream n at w e h
+      go (answer rs xs d) h = tt
+
+  list-in : (x : WidthList) → widthList list ≡ x → W.Claim list x → AnswerIn (ReadOffset s list) (readWith s x)
+  list-in (unsound at) e h = in-list at h
+  list-in (sound w) e h = stream-in w e
+
+  read-in : AnswerIn (ReadOffset s list) (read s list)
+  unfolding read
+  read-in = if-both (AnswerIn (ReadOffset s list)) (isOver streamMost s || isOver 65_536 list) _ _ too-long (list-in (widthList list) refl (W.list-claim list))
+
+  into-in : (records entries : ℕ) → AnswerIn (OrRoom (ReadOffset s list)) (readInto records entries s list)
+  unfolding readInto
+  into-in records entries = go (read s list) read-in
+    where
+      go : (x : Answer) → AnswerIn (ReadOffset s list) x → AnswerIn (OrRoom (ReadOffset s list)) (roomFor records entries x)
+      go (refuse n at) h = room-aside n at h
+      go (answer rs xs e) h = if-both (AnswerIn (OrRoom (ReadOffset s list))) (ltb records (length rs) || ltb entries (length xs)) _ _ no-room tt
+
+  judge-in : JudgingIn (ReadOffset s list) (judge s list)
+  unfolding judge
+  judge-in = go (read s list) read-in
+    where
+      go : (x : Answer) → AnswerIn (ReadOffset s list) x → JudgingIn (ReadOffset s list) (judgingOf (spellWith s (widthList list)) x)
+      go (refuse n at) h = h
+      go (answer rs xs e) h = tt
+
+  -- ---- the rewriter
+
+  spell-in : SpellingIn (OrRoom (ReadOffset s list)) (respell s list)
+  unfolding respell
+  spell-in = go (spellWith s (widthList list)) (read s list) read-in
+    where
+      go : (t : List ℕ) (x : Answer) → AnswerIn (ReadOffset s list) x → SpellingIn (OrRoom (ReadOffset s list)) (spellIf t x)
+      go t (refuse n at) h = room-aside n at h
+      go t (answer rs xs e) h = if-both (SpellingIn (OrRoom (ReadOffset s list))) (isOver streamMost t) _ _ no-room tt
+
+  spell-into-in : (room : ℕ) → SpellingIn (OrRoom (ReadOffset s list)) (respellInto room s list)
+  unfolding respellInto
+  spell-into-in room = go (respell s list) spell-in
+    where
+      go : (x : Spelling) → SpellingIn (OrRoom (ReadOffset s list)) x → SpellingIn (OrRoom (ReadOffset s list)) (spellingIn room x)
+      go (notSpelled n at) h = h
+      go (spelled t) h = if-both (SpellingIn (OrRoom (ReadOffset s list))) (isOver room t) _ _ no-room tt
+
+  -- ---- the finder
+
+  module _ (q : List ℕ) where
+    hits-in : (qs : List Wanted) (x : Answer) → AnswerIn (ReadOffset s list) x → FoundIn (FindOffset s list q) (hitsIn qs x)
+    hits-in qs (refuse n at) h = as-read n at h
+    hits-in qs (answer rs xs e) h = tt
+
+    asked-in : (w : Widths) (x : Query) → widthList list ≡ sound w → Q.Claim q x → FoundIn (FindOffset s list q) (findAsked s w x)
+    asked-in w (illFormed at) e h = in-query at h
+    asked-in w (wellFormed qs) e h = hits-in qs (follow w start (commands 0 0 s)) (stream-in w e)
+
+    with-in : (x : WidthList) → widthList list ≡ x → W.Claim list x → FoundIn (FindOffset s list q) (findWith s q x)
+    with-in (unsound at) e h = as-read 2 at (in-list at h)
+    with-in (sound w) e h = asked-in w (query q) e (Q.query-claim q)
+
+    find-in : FoundIn (FindOffset s list q) (find s list q)
+    unfolding find
+    find-in =
+        if-both (FoundIn (FindOffset s list q)) (isOver streamMost s || (isOver 65_536 list || isOver 8_192 q)) _ _ (as-read 1 0 too-long)
+        (with-in (widthList list) refl (W.list-claim list))
+
+    find-into-in : (records hits : ℕ) → FoundIn (OrRoom (FindOffset s list q)) (findInto records hits s list q)
+    unfolding findInto
+    find-into-in records hits = go (find s list q) find-in
+      where
+        go : (x : Found) → FoundIn (FindOffset s list q) x → FoundIn (OrRoom (FindOffset s list q)) (foundIn records hits x)
+        go (notFound n at) h = room-aside n at h
+        go (found rs xs) h = if-both (FoundIn (OrRoom (FindOffset s list q))) (ltb records (length rs) || ltb hits (length xs)) _ _ no-room tt
+
+pub offsets : Offsets
+offsets = record {
+  reads = λ s list n at e. subst (AnswerIn (ReadOffset s list)) e (read-in s list);
+  reader = λ records entries s list n at e. subst (AnswerIn (OrRoom (ReadOffset s list))) e (into-in s list records entries);
+  respells = λ s list n at e. subst (SpellingIn (OrRoom (ReadOffset s list))) e (spell-in s list);
+  rewriter = λ room s list n at e. subst (SpellingIn (OrRoom (ReadOffset s list))) e (spell-into-in s list room);
+  finds = λ s list q n at e. subst (FoundIn (FindOffset s list q)) e (find-in s list q);
+  finder = λ records hits s list q n at e. subst (FoundIn (OrRoom (FindOffset s list q))) e (find-into-in s list q records hits);
+  judges = λ s list n at e. subst (JudgingIn (ReadOffset s list)) e (judge-in s list);
+}

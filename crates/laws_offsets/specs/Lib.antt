@@ -1,0 +1,3 @@
+pub mod Stream
+pub mod Lists
+pub mod Offsets

@@ -1,0 +1,64 @@
+-- Places of a width list and of a query, said of their bytes (document 01, "Refusal numbers and their order", 2 and 12): the "start of
+-- its first wrong line".
+use Prim.Native.Nat.{ℕ, _+_, _<_}
+use mathlib.Core.List.{List, [], _∷_, _++_}
+use mathlib.Core.Logic.{_⊎_}
+use mathlib.Core.Path.{_≡_}
+use lib.ListN.{length, take, drop}
+use Rattle.rules.specs.Bytes.{oneLine}
+use Rattle.rules.specs.Widths.{Widths, unsound, sound, widthList}
+use Rattle.rules.specs.Find.{Wanted, illFormed, wellFormed, query}
+use Rattle.laws_find.specs.Written.{gapLine}
+use Rattle.laws_offsets.specs.Stream.{byteAt}
+
+-- where a line starts: at the first byte, or behind a newline
+pub data LineStart (t : List ℕ) : ℕ → Type 0 where
+  first-line : LineStart t 0
+  behind-newline : (at : ℕ) → at < length t → byteAt t at ≡ 10 → LineStart t (at + 1)
+
+-- the place of the newline of the line that starts at a place, or the length where it has none
+abbrev pub lineEnd : List ℕ → ℕ → ℕ
+lineEnd t at = at + oneLine (drop at t)
+
+-- ---- 2: "width list; start of its first wrong line (one without a newline is wrong), or its length where a line is missing at the end"
+
+-- Nothing before the place is wrong: what stands there is sound, or it lacks a line at its own end.
+abbrev pub RightTo : List ℕ → ℕ → Type 0
+RightTo list at = ((w : Widths) × (widthList (take at list) ≡ sound w)) ⊎ (widthList (take at list) ≡ unsound at)
+
+-- What is wrong at the place: a line without a newline; a line that is wrong whatever stands behind it; or it is the end, and the list is
+-- not sound, but would be with one line more.
+pub data WrongAt (list : List ℕ) (at : ℕ) : Type 0 where
+  unended : at < length list → lineEnd list at ≡ length list → WrongAt list at
+  wrong-line : lineEnd list at < length list → ((m : List ℕ) → widthList (take (lineEnd list at + 1) list ++ m) ≡ unsound at) → WrongAt list at
+  missing : at ≡ length list → ((v : Widths) → widthList list ≡ sound v → ⊥) → (t : List ℕ) (w : Widths) → oneLine t ≡ length t → widthList (list ++ (t ++ 10 ∷ [])) ≡ sound w → WrongAt list at
+
+pub record ListOffset (list : List ℕ) (at : ℕ) : Type 0 where
+  pub line : LineStart list at
+  pub before : RightTo list at
+  -- "its first wrong line": an empty line in its place would be the first wrong one too
+  pub first : (m : List ℕ) → widthList (take at list ++ 10 ∷ m) ≡ unsound at
+  pub here : WrongAt list at
+
+-- ---- 12: "query; start of its first wrong line (a last gap line is that line), 0 if empty"
+
+-- Nothing before the place is wrong: there is nothing; or what stands there is well formed, with perhaps a gap line behind it.
+pub data AskedTo (q : List ℕ) (at : ℕ) : Type 0 where
+  nothing : at ≡ 0 → AskedTo q at
+  glyphs : (qs : List Wanted) → query (take at q) ≡ wellFormed qs → AskedTo q at
+  gap-behind : (p : ℕ) (qs : List Wanted) → query (take p q) ≡ wellFormed qs → take at q ≡ take p q ++ gapLine → AskedTo q at
+
+-- What is wrong at the place: the query is empty; a line without a newline; a line that is wrong whatever stands behind it; or a gap
+-- line that is the last line, behind what is well formed.
+pub data AskedWrongAt (q : List ℕ) (at : ℕ) : Type 0 where
+  empty : q ≡ [] → at ≡ 0 → AskedWrongAt q at
+  unended-line : at < length q → lineEnd q at ≡ length q → AskedWrongAt q at
+  wrong-asked : lineEnd q at < length q → ((m : List ℕ) → query (take (lineEnd q at + 1) q ++ m) ≡ illFormed at) → AskedWrongAt q at
+  last-gap : drop at q ≡ gapLine → (qs : List Wanted) → query (take at q) ≡ wellFormed qs → AskedWrongAt q at
+
+pub record QueryOffset (q : List ℕ) (at : ℕ) : Type 0 where
+  pub line : LineStart q at
+  pub before : AskedTo q at
+  -- an empty line in its place would be the first wrong one too
+  pub first : (m : List ℕ) → query (take at q ++ 10 ∷ m) ≡ illFormed at
+  pub here : AskedWrongAt q at
