@@ -26,6 +26,9 @@ use Rattle.laws_answers.specs.Statements.{rowsIn, cmdsOf, Exact}
 use Rattle.laws_answers.specs.Statements as T
 use Rattle.laws_answers.proofs.Theorems.{keysIn, keys-by-outline, exactness, answered, queryText, roomy, byAnyCommand}
 use Rattle.laws_answers.proofs.Numbers.{numbers}
+use Rattle.laws_offsets.specs.Offsets.{FindOffset, OrRoom, Said}
+use Rattle.laws_offsets.proofs.Offsets.{offsets}
+use Rattle.laws_offsets.proofs.ByNumber.{by-number}
 use Rattle.demands.specs.Demands.{Allowed, Accepted, recorded, set, WellFormed, ListOf, FoundAll, SetBy, none, c-or-C, t-or-u, two-digits, Motion, to-place, by-way, SetOtherwise, ended, same, otherwise, moved, moved₂, FiveForms, SameList, Alike}
 use Rattle.demands.proofs.Allowed.{ReadsTo, allowed-reads, allowed-accepted, commands-are, Stream, read-allowed}
 use Rattle.demands.proofs.ReadCalls.{take-over, drop-over, length-over, glyphs-seen, rows-stand}
@@ -266,8 +269,8 @@ module _ (s list q : List ℕ) (rs : List Record) (hs : List ℕ) (rs′ : List 
   pub refused-into : findInto (length rs) (length hs) s list q ≡ notFound number at
   refused-into = refused-call .0
 
-  pub number-in : (1 ≤ number) × (number ≤ 13)
-  number-in = numbers .finder (length rs) (length hs) s list q number at refused-into
+  pub from-the-table : OrRoom (FindOffset s list q) number at × Said s list q number at
+  from-the-table = (offsets .finder (length rs) (length hs) s list q number at refused-into, by-number .finder (length rs) (length hs) s list q number at refused-into)
 
   pub refused-kept : Kept (length rs) (length hs) (find s list q) (notFound number at)
   refused-kept = refused-call .3

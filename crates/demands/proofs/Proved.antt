@@ -44,9 +44,9 @@ answer-all = record {
 
 pub refuse-from-the-table : D.Refuse
 refuse-from-the-table = record {
-  reader = λ s list rs es r rs′ es′ number at c h. read-calls.number-in s list rs es r rs′ es′ c number at h;
-  rewriter = λ s list o o′ number at c. spell-calls.number-in s list o o′ number at c;
-  finder = λ s list q rs hs rs′ hs′ number at c. find-calls.number-in s list q rs hs rs′ hs′ number at c;
+  reader = λ s list rs es r rs′ es′ number at c h. read-calls.from-the-table s list rs es r rs′ es′ c number at h;
+  rewriter = λ s list o o′ number at c. spell-calls.from-the-table s list o o′ number at c;
+  finder = λ s list q rs hs rs′ hs′ number at c. find-calls.from-the-table s list q rs hs rs′ hs′ number at c;
 }
 
 pub leave-alone : D.LeaveAlone
@@ -71,6 +71,8 @@ pub give-house-spelling : D.GiveHouseSpelling
 give-house-spelling = record {
   where-allowed = λ s list o r o′ w end gs xs c l a p q. spell-calls.gives s list o r o′ c w end gs xs l a p q;
   only-where-allowed = λ s list o n o′ c. spell-calls.only-allowed-spelt s list o n o′ c;
+  in-house-lines = λ s list o n o′ c. spell-calls.in-house-lines s list o n o′ c;
+  no-motion-in-vain = λ s list o n o′ c xs x k ys h. spell-calls.no-motion-in-vain s list o n o′ c xs x k ys h;
 }
 
 pub spelling-reads-the-same : D.SpellingReadsTheSame

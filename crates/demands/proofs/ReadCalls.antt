@@ -22,6 +22,9 @@ use Rattle.laws.proofs.Cases.{on, no, or-true, take-front, drop-front}
 use Rattle.laws_scan.proofs.Names.{AllRows, RowIn, RowsOf, read-stands}
 use Rattle.laws_answers.proofs.Theorems.{roomy}
 use Rattle.laws_answers.proofs.Numbers.{numbers}
+use Rattle.laws_offsets.specs.Offsets.{ReadOffset, OrRoom, Said}
+use Rattle.laws_offsets.proofs.Offsets.{offsets}
+use Rattle.laws_offsets.proofs.ByNumber.{by-number}
 use Rattle.demands.specs.Demands.{SoundList, Allowed, SeenGlyph, recorded, set, SeenEntry, entered, drawn, IsAccepted, RecordedAll, RecordEach}
 use Rattle.demands.proofs.Allowed.{ReadsTo, allowed-reads, Stream, read-allowed}
 
@@ -135,8 +138,8 @@ module _ (s list : List ℕ) (rs : List Record) (es : List Entry) (r : Reading) 
     pub refused-kept : Kept (length rs) (length es) (read s list) (refuse number at)
     refused-kept = refused-call .3
 
-    pub number-in : (1 ≤ number) × (number ≤ 13)
-    number-in = numbers .reader (length rs) (length es) s list number at refused-into
+    pub from-the-table : OrRoom (ReadOffset s list) number at × Said s list [] number at
+    from-the-table = (offsets .reader (length rs) (length es) s list number at refused-into, by-number .reader (length rs) (length es) s list number at refused-into .0)
 
   -- an acceptance
   pub record Rows : Type 0 where

@@ -16,7 +16,7 @@ use Rattle.rules.specs.declared.ReadAnswer.the-variants as R
 use Rattle.rules.specs.declared.Reading.{Reading}
 use Rattle.rules.specs.declared.Respelling.{Respelling}
 use Rattle.rules.specs.declared.Respelling.the-variants as S
-use Rattle.rules.specs.Act.{Cmd}
+use Rattle.rules.specs.Act.{Axis, Act, to, Cmd, just}
 use Rattle.rules.specs.State.{Env, Glyph, Item, went}
 use Rattle.rules.specs.Widths.{Widths, WidthList, unsound, sound, widthList}
 use Rattle.rules.specs.Record.{GlyphRow, ItemRow, Answer, refuse, answer, seen}
@@ -27,8 +27,15 @@ use Rattle.laws_answers.specs.Statements.{cmdsOf, houseText}
 use Rattle.laws_answers.specs.Statements as T
 use Rattle.laws_answers.proofs.Theorems.{again, fixedPoint, roomy, oneSpelling, limits-hold}
 use Rattle.laws_answers.proofs.Numbers.{numbers}
-use Rattle.demands.specs.Demands.{SoundList, Allowed, recorded, set, entered, drawn, IsAccepted, RecordedAll, houseSpelling, ReadTheSame}
-use Rattle.demands.proofs.Allowed.{ReadsTo, reads-to, allowed-reads, allowed-accepted, commands-are, Stream, read-allowed}
+use Rattle.laws_offsets.specs.Offsets.{ReadOffset, OrRoom, Said}
+use Rattle.laws_offsets.proofs.Offsets.{offsets}
+use Rattle.laws_offsets.proofs.ByNumber.{by-number}
+use Rattle.laws_house.specs.Lines.{HouseText}
+use Rattle.laws_house.proofs.Spelt.{speltInLines}
+use Rattle.laws_needed.specs.Statement.{OnlyWhereItDiffers}
+use Rattle.laws_needed.proofs.Theorem.{motionsNeeded}
+use Rattle.demands.specs.Demands.{SoundList, ConsistsOf, Allowed, recorded, set, entered, drawn, IsAccepted, RecordedAll, houseSpelling, ReadTheSame}
+use Rattle.demands.proofs.Allowed.{consists-read, ReadsTo, reads-to, allowed-reads, allowed-accepted, commands-are, Stream, read-allowed}
 use Rattle.demands.proofs.ReadCalls.{take-over, drop-over, length-over, Rows, accepted-call, records-each, only-allowed}
 
 -- what the list says is one thing
@@ -175,6 +182,13 @@ module _ (s list o : List ℕ) (n : ℕ) (o′ : List ℕ) (c : RespellCall s li
           by-cases (inl f) = ap textIn (sym e ∙ f)
           by-cases (inr f) = absurd (subst IsText (sym e ∙ f .0) tt)
 
+  pub in-house-lines : HouseText t
+  in-house-lines = speltInLines s list t (text-in s list o n o′ c .spelling)
+
+  pub no-motion-in-vain : (xs : List Act) (x : Axis) (k : ℕ) (ys : List Act) → ConsistsOf t (map just (xs ++ to x k ∷ ys)) → OnlyWhereItDiffers list t xs x k ys
+  no-motion-in-vain xs x k ys h =
+      motionsNeeded .each s list t (text-in s list o n o′ c .spelling) xs x k ys (consists-read t (map just (xs ++ to x k ∷ ys)) h 0 .1)
+
   -- the spelling is allowed, and says the same
   same-allowed : (w : Widths) (end : Env) (gs : List Glyph) (xs : List Item) → SoundList list w → Allowed s w end gs xs → Allowed t w end gs xs
   same-allowed w end gs xs l a =
@@ -247,8 +261,8 @@ module _ (s list o o′ : List ℕ) (number at : ℕ) (c : RespellCall s list o 
   pub refused-into : respellInto (length o) s list ≡ notSpelled number at
   refused-into = refused-call .0
 
-  pub number-in : (1 ≤ number) × (number ≤ 13)
-  number-in = numbers .rewriter (length o) s list number at refused-into
+  pub from-the-table : OrRoom (ReadOffset s list) number at × Said s list [] number at
+  from-the-table = (offsets .rewriter (length o) s list number at refused-into, by-number .rewriter (length o) s list number at refused-into .0)
 
   pub refused-given : Given (length o) (respell s list) (notSpelled number at)
   refused-given = refused-call .2

@@ -32,6 +32,9 @@ use Rattle.rules.specs.Find.{Wanted, Key, key}
 use Rattle.rules.specs.Calls.{ReadCall, RespellCall, FindCall, JudgeCall}
 use Rattle.laws_find.specs.Occurs.{OccursAt, Elem, Rising}
 use Rattle.laws_find.specs.Written.{written, GoodQuery}
+use Rattle.laws_offsets.specs.Offsets.{ReadOffset, FindOffset, OrRoom, Said}
+use Rattle.laws_house.specs.Lines.{HouseText}
+use Rattle.laws_needed.specs.Statement.{OnlyWhereItDiffers}
 
 -- ---- the words
 
@@ -129,13 +132,15 @@ pub record Answer : Type 0 where
       → FindCall s list q rs hs r rs′ hs′ → (length rs′ ≡ length rs) × (length hs′ ≡ length hs)
 
 -- "The reader, rewriter and finder each accept, or refuse with a number and an offset from the table in 01." (An answer is the one or the
--- other by its type.)
+-- other by its type.) `ReadOffset` and `FindOffset` are the table's rows: each number with what stands at its offset; 13 at 0 for want of
+-- room; `Said` is the same by numbers (`laws_offsets`).
 pub record Refuse : Type 0 where
   pub reader : (s list : List ℕ) (rs : List Record) (es : List Entry) (r : Reading) (rs′ : List Record) (es′ : List Entry) (number at : ℕ)
-      → ReadCall s list rs es r rs′ es′ → r .answer ≡ R.Refused number at → (1 ≤ number) × (number ≤ 13)
-  pub rewriter : (s list o : List ℕ) (o′ : List ℕ) (number at : ℕ) → RespellCall s list o (S.Refused number at) o′ → (1 ≤ number) × (number ≤ 13)
+      → ReadCall s list rs es r rs′ es′ → r .answer ≡ R.Refused number at → OrRoom (ReadOffset s list) number at × Said s list [] number at
+  pub rewriter : (s list o : List ℕ) (o′ : List ℕ) (number at : ℕ) → RespellCall s list o (S.Refused number at) o′
+      → OrRoom (ReadOffset s list) number at × Said s list [] number at
   pub finder : (s list q : List ℕ) (rs : List Record) (hs : List ℕ) (rs′ : List Record) (hs′ : List ℕ) (number at : ℕ)
-      → FindCall s list q rs hs (F.Refused number at) rs′ hs′ → (1 ≤ number) × (number ≤ 13)
+      → FindCall s list q rs hs (F.Refused number at) rs′ hs′ → OrRoom (FindOffset s list q) number at × Said s list q number at
 
 -- "A refusal leaves every row and buffer holding what it held before."
 pub record LeaveAlone : Type 0 where
@@ -173,7 +178,8 @@ RecordEach = (s list : List ℕ) (rs : List Record) (es : List Entry) (r : Readi
     → ReadCall s list rs es r rs′ es′ → SoundList list w → length gs ≤ length rs → length xs ≤ length es → Allowed s w end gs xs → RecordedAll s end gs xs rs es r rs′ es′
 
 -- "The rewriter gives the one house spelling.": of the commands that the stream consists of, so that streams of the same commands have one;
--- unless it is longer than 16,777,216 bytes, or than the buffer. What lies behind it is kept.
+-- unless it is longer than 16,777,216 bytes, or than the buffer. What lies behind it is kept. It is written in house lines, and has `H` and
+-- `V` only where the place differs.
 abbrev pub houseSpelling : Widths → List Cmd → List ℕ
 houseSpelling w cs = spellAll (spelling w cs)
 
@@ -184,6 +190,9 @@ pub record GiveHouseSpelling : Type 0 where
       → (r ≡ S.Accepted (length (houseSpelling w (a .commands)))) × (o′ ≡ houseSpelling w (a .commands) ++ drop (length (houseSpelling w (a .commands))) o)
   pub only-where-allowed : (s list o : List ℕ) (n : ℕ) (o′ : List ℕ) → RespellCall s list o (S.Accepted n) o′
       → (w : Widths) × (end : Env) × (gs : List Glyph) × (xs : List Item) × SoundList list w × (a : Allowed s w end gs xs) × (take n o′ ≡ houseSpelling w (a .commands)) × (length (take n o′) ≡ n)
+  pub in-house-lines : (s list o : List ℕ) (n : ℕ) (o′ : List ℕ) → RespellCall s list o (S.Accepted n) o′ → HouseText (take n o′)
+  pub no-motion-in-vain : (s list o : List ℕ) (n : ℕ) (o′ : List ℕ) → RespellCall s list o (S.Accepted n) o′
+      → (xs : List Act) (x : Axis) (k : ℕ) (ys : List Act) → ConsistsOf (take n o′) (map just (xs ++ to x k ∷ ys)) → OnlyWhereItDiffers list (take n o′) xs x k ys
 
 -- "Whenever it gives one, reading that spelling yields the same glyphs, drawings, controls, pages and end position": the very same, names
 -- and arguments included, ending in the same environment; and so say the rows and the answer, where they are large enough
