@@ -34,7 +34,7 @@ use Rattle.scan_arguments.specs.declared.Four.the-variants as D
 use Rattle.scan_arguments.proofs.Chains.{ints}
 use Rattle.scan_arguments.proofs.Nums.{OneNums, ThreeNums, FourNums, one-nums, three-nums, four-nums, rest-at}
 use Rattle.scan_close.specs.Closed.{endedAt}
-use Rattle.scan_close.proofs.Letters.{Unlike, if-alike}
+use Rattle.scan_letters.proofs.Letters.{Unlike, if-alike}
 use Rattle.scan_colours.specs.Parts.{componentsWith, componentsOf, componentsIn, componentsFrom, componentsAt, componentThen, oneBy, oneComponent, threeBy, threeComponents, fourBy, fourComponents, fillBy, fillSet, colourBy}
 use Rattle.scan_colours.specs.declared.Components.{Components}
 use Rattle.scan_colours.specs.declared.Components.the-variants.{Fault, Over, Read}

@@ -3,12 +3,18 @@ use Prim.Native.Nat.{ℕ}
 use mathlib.Core.Bool.{Bool, true, false}
 use mathlib.Core.List.{List, [], _∷_}
 use mathlib.Core.Path.{_≡_}
+use types.Run.{OneOf}
 use Rattle.rules.specs.Bytes.{if_then_else_}
 
 -- what the default of a `match` knows of a number: it is none of the arms' keys, which stand from the last arm to the first
 abbrev pub Unlike : ℕ → List ℕ → Type 0
 Unlike b [] = Unit {0}
 Unlike b (k ∷ ks) = Unlike b ks × (b ≡ k → ⊥)
+
+-- the same, of arms with several keys
+abbrev pub UnlikeAll : ℕ → List (List ℕ) → Type 0
+UnlikeAll b [] = Unit {0}
+UnlikeAll b (ks ∷ kss) = UnlikeAll b kss × (OneOf ks b → ⊥)
 
 -- a test that decides on two sides
 pub if-alike : {A : Type 0} {R : Type 0} (f : A → R) (t : Bool) (x y : R) (u v : A) → x ≡ f u → y ≡ f v → (if t then x else y) ≡ f (if t then u else v)
