@@ -9,7 +9,7 @@ ghost use Prim.Native.Nat.{_<_};
 ghost use lib.ListN.{length};
 ghost use Rattle.rules.specs.Scan.{isPosition, isPositive};
 ghost use Rattle.scan_command.specs.View.{letterAt};
-ghost use Rattle.scan_controls.specs.Parts.{namedTo, shortName, deviceAt, fileAt, mountedAt, mountAt, plainAt, resolutionAt};
+ghost use Rattle.scan_controls.specs.Parts.{namedTo, shortName, deviceAt, fileAt, mountedAt, mountAt, bareAt, plainAt, resolutionAt};
 
 // From 1 to 99,999,999.
 fn is_positive(n: u32) -> bool

@@ -2,7 +2,7 @@
 use Prim.Native.Nat.{ℕ}
 use mathlib.Core.Bool.{Bool, true, false}
 use mathlib.Core.List.{List, [], _∷_}
-use mathlib.Core.Path.{_≡_}
+use mathlib.Core.Path.{_≡_, refl}
 use types.Run.{OneOf}
 use Rattle.rules.specs.Bytes.{if_then_else_}
 
@@ -17,6 +17,7 @@ UnlikeAll b [] = Unit {0}
 UnlikeAll b (ks ∷ kss) = UnlikeAll b kss × (OneOf ks b → ⊥)
 
 -- a test that decides on two sides
-pub if-alike : {A : Type 0} {R : Type 0} (f : A → R) (t : Bool) (x y : R) (u v : A) → x ≡ f u → y ≡ f v → (if t then x else y) ≡ f (if t then u else v)
-if-alike f true x y u v p q = p
-if-alike f false x y u v p q = q
+pub if-alike : {A : Type 0} {B : Type 0} {R : Type 0} (f : A → R) (g : B → R) (t : Bool) (x y : A) (u v : B)
+    → (t ≡ true → f x ≡ g u) → (t ≡ false → f y ≡ g v) → f (if t then x else y) ≡ g (if t then u else v)
+if-alike f g true x y u v p q = p refl
+if-alike f g false x y u v p q = q refl
