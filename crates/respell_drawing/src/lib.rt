@@ -76,9 +76,9 @@ fn draw_count(drawing: scan_letters::Drawing, terms: u64) -> usize
     ensures { λ r. ⌜ r ≡ drawCount drawing terms ⌝ }
 {
     match drawing {
-        scan_letters::Drawing::One { .. } => 1,
-        scan_letters::Drawing::Dummied { .. } => 1,
-        scan_letters::Drawing::Two { .. } => 2,
+        scan_letters::Drawing::One(_) => 1,
+        scan_letters::Drawing::Dummied(_) => 1,
+        scan_letters::Drawing::Two(_) => 2,
         scan_letters::Drawing::Four => 4,
         scan_letters::Drawing::Pairs => 2 * (terms as usize),
         scan_letters::Drawing::Gray => 1,

@@ -21,9 +21,9 @@ pub fn drawing(s: &[u8], at: usize) -> Command
     let next = i + 1;
     let letter = s[i];
     match scan_letters::drawing_of(letter) {
-        Drawing::One { motion } => scan_shapes::by_one(s, at, next, letter, motion),
-        Drawing::Dummied { motion } => scan_shapes::dummied(s, at, next, letter, motion),
-        Drawing::Two { motion } => scan_shapes::by_two(s, at, next, letter, motion),
+        Drawing::One(motion) => scan_shapes::by_one(s, at, next, letter, motion),
+        Drawing::Dummied(motion) => scan_shapes::dummied(s, at, next, letter, motion),
+        Drawing::Two(motion) => scan_shapes::by_two(s, at, next, letter, motion),
         Drawing::Four => scan_shapes::by_four(s, at, next, letter),
         Drawing::Pairs => scan_shapes::by_pairs(s, at, next, letter),
         Drawing::Gray => scan_shapes::gray(s, at, next),

@@ -14,11 +14,11 @@ pub enum Motion {
 // The column "arguments" of a drawing, with the motion where it is not that of all its pairs.
 pub enum Drawing {
     // n
-    One { motion: Motion },
+    One(Motion),
     // d, optional dummy
-    Dummied { motion: Motion },
+    Dummied(Motion),
     // h v
-    Two { motion: Motion },
+    Two(Motion),
     // h1 v1 h2 v2: +h1+h2, +v1+v2
     Four,
     // 2 to 64 integers, an even number: + sum of the odd-placed, + sum of the even-placed
@@ -70,20 +70,12 @@ pub fn drawing_of(letter: u8) -> Drawing
     ensures { λ r. ⌜ r ≡ drawingOf letter ⌝ }
 {
     match letter {
-        b'l' => Drawing::Two {
-            motion: Motion::Both,
-        },
+        b'l' => Drawing::Two(Motion::Both),
         b'a' => Drawing::Four,
-        b'c' | b'C' => Drawing::Dummied {
-            motion: Motion::Across,
-        },
-        b'e' | b'E' => Drawing::Two {
-            motion: Motion::Across,
-        },
+        b'c' | b'C' => Drawing::Dummied(Motion::Across),
+        b'e' | b'E' => Drawing::Two(Motion::Across),
         b'p' | b'P' | b'~' => Drawing::Pairs,
-        b't' => Drawing::One {
-            motion: Motion::Still,
-        },
+        b't' => Drawing::One(Motion::Still),
         b'f' => Drawing::Gray,
         b'F' => Drawing::Scheme,
         _ => Drawing::Unknown,
