@@ -1,7 +1,7 @@
 -- Controls, written: the answer of each return, in the form in which `search` applies it.
 use Prim.Native.Nat.{ℕ, _+_, _-_, _≤_, _<_}
 use native.Mathlib.Omega.{arith}
-use mathlib.Core.Bool.{Bool, true, false, not, _||_}
+use mathlib.Core.Bool.{Bool, true, false, not}
 use mathlib.Core.List.{List, [], _∷_, _++_}
 use mathlib.Core.Logic.{inl, inr}
 use mathlib.Core.Path.{_≡_, refl, sym, subst}
@@ -15,6 +15,10 @@ use Rattle.rules.specs.Bytes.{if_then_else_, is, isSpace, isNotWhite}
 use Rattle.scan_command.specs.declared.Command.{Command}
 use Rattle.scan_command.specs.declared.Command.the-variants as C
 use Rattle.scan_command.proofs.Command.{enum, the-type}
+use Rattle.scan_letters.specs.Selected.{controlOf}
+use Rattle.scan_letters.specs.declared.Control as L
+use Rattle.scan_letters.specs.declared.Control.the-variants as X
+use Rattle.scan_letters.proofs.Control as N
 use Rattle.scan_lex.specs.At.{runEnd}
 use Rattle.respell_model.specs.Sheet.{put, putAll}
 use Rattle.respell_model.specs.Lines.{plainArg, nameArg, argsFrom, plainCount, byteOf, behindWord, textAt, rawArg, lineOf}
@@ -24,12 +28,27 @@ use Rattle.respell_control.specs.Control.{Control, device, resolution, i
 
 -- ---- counts, places
 
-module _ (b : ℕ) where
-  pub plain-one : (is "H" b || (is "S" b || is "u" b)) ≡ true → 1 ≡ plainCount b
-  plain-one e = rw e
+pub plain-one : (c d : L.Control) (lo hi : ℕ) → c ≡ d → c ≡ X.Number lo hi → 1 ≡ plainCount d
+plain-one c d lo hi g e = rw (← g, e)
 
-  pub plain-none : (is "H" b || (is "S" b || is "u" b)) ≡ false → 0 ≡ plainCount b
-  plain-none e = rw e
+-- the tags of the other letters
+abbrev numberless : List ℕ
+numberless = 0 ∷ 1 ∷ 2 ∷ 3 ∷ 4 ∷ 5 ∷ 7 ∷ 8 ∷ 9 ∷ []
+
+none-of : (c : L.Control) → OneOf numberless (tagOf N.the-type c) → 0 ≡ plainCount c
+none-of X.Device e = refl
+none-of X.Resolution e = refl
+none-of X.Init e = refl
+none-of X.File e = refl
+none-of X.Mount e = refl
+none-of X.Bare e = refl
+none-of (X.Number lo hi) e = absurd (miss numberless 6 (tt {0}) e)
+none-of X.Stop e = refl
+none-of X.Text e = refl
+none-of X.Unknown e = refl
+
+pub plain-none : (c d : L.Control) → c ≡ d → OneOf numberless (tagOf N.the-type c) → 0 ≡ plainCount d
+plain-none c d g e = rw (← g) (none-of c e)
 
 pub word-behind : (s : List ℕ) (at i r : ℕ) → i ≡ runEnd isSpace s (at + 1) → r ≡ runEnd isNotWhite s i → r ≡ behindWord s at
 word-behind s at i r e f = rw (f, e)
@@ -86,7 +105,7 @@ module _ (o q : List ℕ) (at r : ℕ) where
 -- ---- a control by its variant
 
 module _ (s : List ℕ) (place : ℕ) (c : Command) (o q : List ℕ) (at r : ℕ) where
-  pub by-plain : (letter next b n : ℕ) → c ≡ C.Plain letter next → b ≡ byteOf letter → n ≡ plainCount letter → sheet q r ≡ putAll (120 ∷ 32 ∷ b ∷ argsFrom n s (behindWord s place)) (sheet o at)
+  pub by-plain : (letter next b n : ℕ) → c ≡ C.Plain letter next → b ≡ byteOf letter → n ≡ plainCount (controlOf b) → sheet q r ≡ putAll (120 ∷ 32 ∷ b ∷ argsFrom n s (behindWord s place)) (sheet o at)
       → sheet q r ≡ putAll (lineOf s place c) (sheet o at)
   by-plain letter next b n g e m f = rw (g, ← e, ← m) f
 

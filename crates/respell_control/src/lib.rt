@@ -6,18 +6,18 @@ ghost use mathlib.Core.List.{[], _∷_, _++_};
 ghost use Prim.Native.Nat.{_<_};
 ghost use lib.ListN.{length};
 ghost use Rattle.rules.specs.Bytes.{if_then_else_, is};
+ghost use Rattle.scan_letters.specs.Selected.{controlOf};
 ghost use Rattle.respell_model.specs.Sheet.{putAll};
 ghost use Rattle.respell_model.specs.Lines.{plainArg, nameArg, argsFrom, plainCount, behindWord, textAt, rawArg, lineOf};
 ghost use Rattle.respell_control.specs.Control.{Control};
 
-// How many integers `x p`, `x t`, `x H`, `x S` and `x u` have.
-fn plain_count(letter: u32) -> usize
-    ensures { λ r. ⌜ r ≡ plainCount letter ⌝ }
+// How many integers a control has that changes nothing.
+fn plain_count(letter: u8) -> usize
+    ensures { λ r. ⌜ r ≡ plainCount (controlOf letter) ⌝ }
 {
-    if (letter == 72) | ((letter == 83) | (letter == 117)) {
-        1
-    } else {
-        0
+    match scan_letters::control_of(letter) {
+        scan_letters::Control::Number { .. } => 1,
+        _ => 0,
     }
 }
 
@@ -116,7 +116,7 @@ pub fn put_control(out: &mut [u8], at: usize, s: &[u8], place: usize, c: Command
         } => put_mount(out, at, position, s, p, len),
         Command::Plain { letter, .. } => {
             let b = respell_arguments::byte_of(letter);
-            put_numbered(out, at, b, s, place, plain_count(letter))
+            put_numbered(out, at, b, s, place, plain_count(b))
         }
         Command::Raw { next } => put_text(out, at, s, place, next),
         Command::Stop { .. } => put_control_letter(out, at, 115),

@@ -1,69 +1,63 @@
 -- Drawings and colours, written: the answer of each return, in the form in which `search` applies it.
 use Prim.Native.Nat.{ℕ, _+_, _*_, _≤_, _<_}
 use native.Mathlib.Omega.{arith}
-use mathlib.Core.Bool.{true, false, _||_}
 use mathlib.Core.List.{List, [], _∷_, _++_}
 use mathlib.Core.Logic.{inl, inr}
 use mathlib.Core.Path.{_≡_, sym, subst}
 use borrow.Author.Needs.{needs}
-use borrow.Author.Tests.{lt-ltb, le-ltb, eq-eqb, ne-eqb}
 use borrow.Enum.Known.{lives-at}
 use denote.Enum.Declared.{tagOf}
 use types.Run.{OneOf, miss}
 use lib.ListN.{length}
 use mir.Syntax.{w64}
 use mir.Val.{Fits}
-use Rattle.rules.specs.Bytes.{is, isSpace}
+use Rattle.rules.specs.Bytes.{isSpace}
 use Rattle.scan_command.specs.declared.Command.{Command}
 use Rattle.scan_command.specs.declared.Command.the-variants as C
 use Rattle.scan_command.proofs.Command.{enum, the-type}
+use Rattle.scan_letters.specs.Selected.{drawingOf, partsOf}
+use Rattle.scan_letters.specs.declared.Drawing as W
+use Rattle.scan_letters.specs.declared.Parts.{Parts}
+use Rattle.scan_letters.specs.declared.Parts.the-variants as P
 use Rattle.scan_lex.specs.At.{runEnd}
 use Rattle.scan_lex.proofs.Runs.{run-within}
 use Rattle.read_model.specs.Fits.{CommandIn}
 use Rattle.respell_model.specs.Sheet.{put, putAll}
-use Rattle.respell_model.specs.Lines.{plainArg, argsFrom, partCount, partArgs, drawCount, byteOf, behindLetter, lineOf}
+use Rattle.respell_model.specs.Lines.{plainArg, argsFrom, threeArgs, partArgs, drawCount, byteOf, behindLetter, lineOf}
 use Rattle.respell_bytes.proofs.Putting.{sheet, put-kept, all-kept}
 use Rattle.respell_arguments.proofs.Behind.{behind-all, put-then, put-nothing, by-line}
 use Rattle.respell_drawing.specs.Drawing.{Drawing, shape, gray, fill}
 
 -- ---- counts
 
-pub by-scheme : (k j r : ℕ) → k ≡ j → r ≡ partCount j → r ≡ partCount k
-by-scheme k j r e f = rw (f, e)
-
-pub no-scheme : (k : ℕ) → (((Unit {0} × (k ≡ 99 → ⊥)) × (k ≡ 103 → ⊥)) × (k ≡ 107 → ⊥)) × (k ≡ 114 → ⊥) → 0 ≡ partCount k
-no-scheme k n = rw (ne-eqb k 99 (n .0 .0 .0 .1), ne-eqb k 103 (n .0 .0 .1), ne-eqb k 107 (n .0 .1), ne-eqb k 114 (n .1))
-
-module _ (b k : ℕ) where
-  pub draw-one : (is "c" b || (is "C" b || is "t" b)) ≡ true → 1 ≡ drawCount b k
-  draw-one e = rw e
-
-  pub draw-pairs : (is "c" b || (is "C" b || is "t" b)) ≡ false → 2 * k ≡ drawCount b k
-  draw-pairs e = rw e
+module _ (d : W.Drawing) (k : ℕ) where
+  pub draw-known : (x : W.Drawing) (n : ℕ) → d ≡ x → n ≡ drawCount x k → n ≡ drawCount d k
+  draw-known x n e f = rw (f, e)
 
 -- ---- components
 
-module _ (n a b c d : ℕ) (o : List ℕ) (at : ℕ) where
-  pub parts-none : n ≡ 0 → sheet o at ≡ putAll (partArgs n a b c d) (sheet o at)
-  parts-none e = rw (eq-eqb n 0 e) (put-nothing o at)
+module _ (o q : List ℕ) (at r : ℕ) where
+  pub three-put : (p p₂ : List ℕ) (x y a b c : ℕ) → sheet p x ≡ putAll (plainArg a) (sheet o at) → sheet p₂ y ≡ putAll (plainArg b) (sheet p x) → sheet q r ≡ putAll (plainArg c) (sheet p₂ y)
+      → sheet q r ≡ putAll (threeArgs a b c) (sheet o at)
+  three-put p p₂ x y a b c f g h =
+      behind-all (plainArg a) (plainArg b ++ plainArg c) (sheet o at) (sheet p x) (sheet q r) f
+      (behind-all (plainArg b) (plainArg c) (sheet p x) (sheet p₂ y) (sheet q r) g h)
 
-  module _ (z : n ≡ 0 → ⊥) (p : List ℕ) (x : ℕ) (f : sheet p x ≡ putAll (plainArg a) (sheet o at)) where
-    pub parts-one : n < 3 → sheet p x ≡ putAll (partArgs n a b c d) (sheet o at)
-    parts-one h = rw (ne-eqb n 0 z, lt-ltb n 3 h) f
+module _ (k : Parts) (a b c d : ℕ) (o : List ℕ) (at : ℕ) where
+  pub parts-none : k ≡ P.Zero → sheet o at ≡ putAll (partArgs k a b c d) (sheet o at)
+  parts-none e = rw e (put-nothing o at)
 
-    module _ (h : 3 ≤ n) (p₂ p₃ : List ℕ) (y w : ℕ) (g : sheet p₂ y ≡ putAll (plainArg b) (sheet p x)) (k : sheet p₃ w ≡ putAll (plainArg c) (sheet p₂ y)) where
-      pub parts-three : n < 4 → sheet p₃ w ≡ putAll (partArgs n a b c d) (sheet o at)
-      parts-three l =
-          rw (ne-eqb n 0 z, le-ltb n 3 h, lt-ltb n 4 l)
-          (behind-all (plainArg a) (plainArg b ++ plainArg c) (sheet o at) (sheet p x) (sheet p₃ w) f
-          (behind-all (plainArg b) (plainArg c) (sheet p x) (sheet p₂ y) (sheet p₃ w) g k))
+  pub parts-unknown : k ≡ P.Unknown → sheet o at ≡ putAll (partArgs k a b c d) (sheet o at)
+  parts-unknown e = rw e (put-nothing o at)
 
-      pub parts-four : (q : List ℕ) (r : ℕ) → 4 ≤ n → sheet q r ≡ putAll (plainArg d) (sheet p₃ w) → sheet q r ≡ putAll (partArgs n a b c d) (sheet o at)
-      parts-four q r l e =
-          rw (ne-eqb n 0 z, le-ltb n 3 h, le-ltb n 4 l)
-          (behind-all (plainArg a) (plainArg b ++ (plainArg c ++ plainArg d)) (sheet o at) (sheet p x) (sheet q r) f
-          (behind-all (plainArg b) (plainArg c ++ plainArg d) (sheet p x) (sheet p₂ y) (sheet q r) g
-          (behind-all (plainArg c) (plainArg d) (sheet p₂ y) (sheet p₃ w) (sheet q r) k e)))
+  pub parts-one : (q : List ℕ) (r : ℕ) → k ≡ P.One → sheet q r ≡ putAll (plainArg a) (sheet o at) → sheet q r ≡ putAll (partArgs k a b c d) (sheet o at)
+  parts-one q r e f = rw e f
+
+  pub parts-three : (q : List ℕ) (r : ℕ) → k ≡ P.Three → sheet q r ≡ putAll (threeArgs a b c) (sheet o at) → sheet q r ≡ putAll (partArgs k a b c d) (sheet o at)
+  parts-three q r e f = rw e f
+
+  pub parts-four : (p q : List ℕ) (x r : ℕ) → k ≡ P.Four → sheet p x ≡ putAll (plainArg a) (sheet o at) → sheet q r ≡ putAll (threeArgs b c d) (sheet p x) → sheet q r ≡ putAll (partArgs k a b c d) (sheet o at)
+  parts-four p q x r e f g = rw e (behind-all (plainArg a) (threeArgs b c d) (sheet o at) (sheet p x) (sheet q r) f g)
 
 -- ---- places
 
@@ -78,16 +72,16 @@ letter-behind s at i e = rw e
 -- ---- lines
 
 module _ (o q : List ℕ) (at r : ℕ) where
-  pub colour-line : (p p₂ : List ℕ) (x y letter scheme k n a b c d : ℕ) → sheet p x ≡ put letter (sheet o at) → k ≡ byteOf scheme → sheet p₂ y ≡ put k (sheet p x) → n ≡ partCount scheme → sheet q r ≡ putAll (partArgs n a b c d) (sheet p₂ y)
-      → sheet q r ≡ putAll (letter ∷ byteOf scheme ∷ partArgs (partCount scheme) a b c d) (sheet o at)
-  colour-line p p₂ x y letter scheme k n a b c d e g f m h =
+  pub colour-line : (p p₂ : List ℕ) (x y letter scheme k a b c d : ℕ) (n : Parts) → k ≡ byteOf scheme → sheet p x ≡ put letter (sheet o at) → sheet p₂ y ≡ put k (sheet p x) → n ≡ partsOf k → sheet q r ≡ putAll (partArgs n a b c d) (sheet p₂ y)
+      → sheet q r ≡ putAll (letter ∷ byteOf scheme ∷ partArgs (partsOf (byteOf scheme)) a b c d) (sheet o at)
+  colour-line p p₂ x y letter scheme k a b c d n g e f m h =
       rw (← g, ← m)
       (put-then o q at r p x letter (k ∷ partArgs n a b c d) e (put-then p q x r p₂ y k (partArgs n a b c d) f h))
 
-  pub draw-line : (s p p₂ : List ℕ) (x y place letter terms k from n : ℕ) → sheet p x ≡ put 68 (sheet o at) → k ≡ byteOf letter → sheet p₂ y ≡ put k (sheet p x) → from ≡ behindLetter s place → n ≡ drawCount letter terms
-      → sheet q r ≡ putAll (argsFrom n s from) (sheet p₂ y) → sheet q r ≡ putAll (68 ∷ byteOf letter ∷ argsFrom (drawCount letter terms) s (behindLetter s place)) (sheet o at)
-  draw-line s p p₂ x y place letter terms k from n e g f m d h =
-      rw (← g, ← m, ← d)
+  pub draw-line : (s p p₂ : List ℕ) (x y place letter terms k from n : ℕ) (w : W.Drawing) → k ≡ byteOf letter → sheet p x ≡ put 68 (sheet o at) → sheet p₂ y ≡ put k (sheet p x) → from ≡ behindLetter s place → w ≡ drawingOf k → n ≡ drawCount w terms
+      → sheet q r ≡ putAll (argsFrom n s from) (sheet p₂ y) → sheet q r ≡ putAll (68 ∷ byteOf letter ∷ argsFrom (drawCount (drawingOf (byteOf letter)) terms) s (behindLetter s place)) (sheet o at)
+  draw-line s p p₂ x y place letter terms k from n w g e f m v d h =
+      rw (← g, ← m, ← v, ← d)
       (put-then o q at r p x 68 (k ∷ argsFrom n s from) e (put-then p q x r p₂ y k (argsFrom n s from) f h))
 
 -- ---- a drawing by its variant
@@ -112,6 +106,6 @@ is-drawing c (inl e) = let v = lives-at enum c 12 e in subst Drawing (sym (v .1)
 is-drawing c (inr (inl e)) = let v = lives-at enum c 13 e in subst Drawing (sym (v .1)) (gray (v .0 .0) (v .0 .1 .0))
 is-drawing c (inr (inr e)) = let v = lives-at enum c 14 e in subst Drawing (sym (v .1)) (fill (v .0 .0) (v .0 .1 .0) (v .0 .1 .1 .0) (v .0 .1 .1 .1 .0) (v .0 .1 .1 .1 .1 .0) (v .0 .1 .1 .1 .1 .1 .0))
 
-pub ruleset drawings = (put-then, by-scheme, no-scheme, draw-one, draw-pairs, parts-none, parts-one, parts-three, parts-four, letter-fits, letter-behind, colour-line, draw-line, put-kept, all-kept, needs)
+pub ruleset drawings = (put-then, draw-known, three-put, parts-none, parts-unknown, parts-one, parts-three, parts-four, letter-fits, letter-behind, colour-line, draw-line, put-kept, all-kept, needs)
 
 pub ruleset drawn = (by-line, draw-few, not-drawn, put-kept, all-kept, needs)

@@ -1,44 +1,38 @@
 // Drawings in the house spelling (document 01, "House spelling", "Drawing"), and the colours that `m` and `DF` set.
 use scan_command::Command;
+use scan_letters::Parts;
 ghost use mathlib.Core.Path.{_≡_};
 ghost use mathlib.Core.List.{_∷_};
 ghost use Prim.Native.Nat.{_<_, _≤_};
 ghost use lib.ListN.{length};
 ghost use Rattle.read_model.specs.Fits.{CommandIn};
 ghost use Rattle.respell_model.specs.Sheet.{putAll};
-ghost use Rattle.respell_model.specs.Lines.{signedArg, argsFrom, partCount, partArgs, drawCount, byteOf, behindLetter, lineOf};
+ghost use Rattle.respell_model.specs.Lines.{signedArg, argsFrom, threeArgs, partArgs, drawCount, byteOf, behindLetter, lineOf};
+ghost use Rattle.scan_letters.specs.Selected.{drawingOf, partsOf};
 ghost use Rattle.respell_drawing.specs.Drawing.{Drawing};
 
-// How many components a scheme has.
-fn part_count(scheme: u32) -> u32
-    ensures { λ r. ⌜ r ≡ partCount scheme ⌝ }
+fn put_three(out: &mut [u8], at: usize, a: u32, b: u32, c: u32) -> usize
+    ensures { λ r. ⌜ record { bytes = now (out .exit); at = r } ≡ putAll (threeArgs a b c) (record { bytes = now (out .entry); at = at }) ⌝ }
 {
-    match scheme {
-        99 => 3,
-        103 => 1,
-        107 => 4,
-        114 => 3,
-        _ => 0,
-    }
+    let x = respell_arguments::put_plain_arg(out, at, a);
+    let y = respell_arguments::put_plain_arg(out, x, b);
+    respell_arguments::put_plain_arg(out, y, c)
 }
 
-// So many of the four components.
-fn put_parts(out: &mut [u8], at: usize, n: u32, a: u32, b: u32, c: u32, d: u32) -> usize
-    ensures { λ r. ⌜ record { bytes = now (out .exit); at = r } ≡ putAll (partArgs n a b c d) (record { bytes = now (out .entry); at = at }) ⌝ }
+// As many of the four components as a scheme has.
+fn put_parts(out: &mut [u8], at: usize, parts: Parts, a: u32, b: u32, c: u32, d: u32) -> usize
+    ensures { λ r. ⌜ record { bytes = now (out .exit); at = r } ≡ putAll (partArgs parts a b c d) (record { bytes = now (out .entry); at = at }) ⌝ }
 {
-    if n == 0 {
-        return at;
+    match parts {
+        Parts::Zero => at,
+        Parts::One => respell_arguments::put_plain_arg(out, at, a),
+        Parts::Three => put_three(out, at, a, b, c),
+        Parts::Four => {
+            let x = respell_arguments::put_plain_arg(out, at, a);
+            put_three(out, x, b, c, d)
+        }
+        Parts::Unknown => at,
     }
-    let x = respell_arguments::put_plain_arg(out, at, a);
-    if n < 3 {
-        return x;
-    }
-    let y = respell_arguments::put_plain_arg(out, x, b);
-    let z = respell_arguments::put_plain_arg(out, y, c);
-    if n < 4 {
-        return z;
-    }
-    respell_arguments::put_plain_arg(out, z, d)
 }
 
 // `m`, or `DF` behind its `D`.
@@ -52,16 +46,17 @@ pub fn put_colour(
     c: u32,
     d: u32,
 ) -> usize
-    ensures { λ r. ⌜ record { bytes = now (out .exit); at = r } ≡ putAll (letter ∷ byteOf scheme ∷ partArgs (partCount scheme) a b c d) (record { bytes = now (out .entry); at = at }) ⌝ }
+    ensures { λ r. ⌜ record { bytes = now (out .exit); at = r } ≡ putAll (letter ∷ byteOf scheme ∷ partArgs (partsOf (byteOf scheme)) a b c d) (record { bytes = now (out .entry); at = at }) ⌝ }
 {
+    let k = respell_arguments::byte_of(scheme);
     let x = respell_bytes::put(out, at, letter);
-    let y = respell_bytes::put(out, x, respell_arguments::byte_of(scheme));
-    put_parts(out, y, part_count(scheme), a, b, c, d)
+    let y = respell_bytes::put(out, x, k);
+    put_parts(out, y, scan_letters::parts_of(k), a, b, c, d)
 }
 
 // `DF`
 fn put_fill(out: &mut [u8], at: usize, scheme: u32, a: u32, b: u32, c: u32, d: u32) -> usize
-    ensures { λ r. ⌜ record { bytes = now (out .exit); at = r } ≡ putAll (68 ∷ 70 ∷ byteOf scheme ∷ partArgs (partCount scheme) a b c d) (record { bytes = now (out .entry); at = at }) ⌝ }
+    ensures { λ r. ⌜ record { bytes = now (out .exit); at = r } ≡ putAll (68 ∷ 70 ∷ byteOf scheme ∷ partArgs (partsOf (byteOf scheme)) a b c d) (record { bytes = now (out .entry); at = at }) ⌝ }
 {
     let x = respell_bytes::put(out, at, 68);
     put_colour(out, x, 70, scheme, a, b, c, d)
@@ -75,15 +70,20 @@ fn put_gray(out: &mut [u8], at: usize, n: u32) -> usize
     respell_arguments::put_signed_line(out, a, 102, n)
 }
 
-// How many integers a drawing keeps: the dummy of `Dc` and `DC` goes.
-fn draw_count(letter: u32, terms: u64) -> usize
+// How many integers a drawing keeps: the dummy goes.
+fn draw_count(drawing: scan_letters::Drawing, terms: u64) -> usize
     requires { ⌜ terms < 65 ⌝ }
-    ensures { λ r. ⌜ r ≡ drawCount letter terms ⌝ }
+    ensures { λ r. ⌜ r ≡ drawCount drawing terms ⌝ }
 {
-    if (letter == 99) | ((letter == 67) | (letter == 116)) {
-        1
-    } else {
-        2 * (terms as usize)
+    match drawing {
+        scan_letters::Drawing::One(_) => 1,
+        scan_letters::Drawing::Dummied(_) => 1,
+        scan_letters::Drawing::Two(_) => 2,
+        scan_letters::Drawing::Four => 4,
+        scan_letters::Drawing::Pairs => 2 * (terms as usize),
+        scan_letters::Drawing::Gray => 1,
+        scan_letters::Drawing::Scheme => 0,
+        scan_letters::Drawing::Unknown => 0,
     }
 }
 
@@ -98,12 +98,14 @@ fn behind_letter(s: &[u8], at: usize) -> usize
 // `D` and the letter of a shape, with the integers that it keeps.
 fn put_shape(out: &mut [u8], at: usize, s: &[u8], place: usize, letter: u32, terms: u64) -> usize
     requires { ⌜ (place < length (now s)) × (length (now s) ≤ 16777216) × (terms < 65) ⌝ }
-    ensures { λ r. ⌜ record { bytes = now (out .exit); at = r } ≡ putAll (68 ∷ byteOf letter ∷ argsFrom (drawCount letter terms) (now (s .entry)) (behindLetter (now (s .entry)) place)) (record { bytes = now (out .entry); at = at }) ⌝ }
+    ensures { λ r. ⌜ record { bytes = now (out .exit); at = r } ≡ putAll (68 ∷ byteOf letter ∷ argsFrom (drawCount (drawingOf (byteOf letter)) terms) (now (s .entry)) (behindLetter (now (s .entry)) place)) (record { bytes = now (out .entry); at = at }) ⌝ }
 {
+    let k = respell_arguments::byte_of(letter);
     let a = respell_bytes::put(out, at, 68);
-    let b = respell_bytes::put(out, a, respell_arguments::byte_of(letter));
+    let b = respell_bytes::put(out, a, k);
     let from = behind_letter(s, place);
-    respell_arguments::put_args(out, b, s, from, draw_count(letter, terms))
+    let n = draw_count(scan_letters::drawing_of(k), terms);
+    respell_arguments::put_args(out, b, s, from, n)
 }
 
 // The line of a drawing at a place of the stream, its newline aside. No other command comes here: the last arm is there for the match alone.

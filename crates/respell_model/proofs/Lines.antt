@@ -12,7 +12,7 @@ use lib.Seq.{drop-drop, getD-drop}
 use Rattle.rules.specs.Bytes.{if_then_else_, bytes, is, isSpace, isWhite, isNotWhite, isDigit, span, spacer, unspaced, string, Num, Int, noInt, int, integer, most, origin, moved, within, near, Nums, short, nums, withNum, integers, manyIntegers, perhapsInteger}
 use Rattle.rules.specs.Act.{across, down, Scheme, cmy, default, gray, cmyk, rgb, Shape, line, arc, circle, solidCircle, ellipse, solidEllipse, polygon, solidPolygon, spline, thickness, grayFill, colourFill, Plain, pause, trailer, height, slant, underline, Act, glyph, index, to, by, page, font, size, colour, break, space, draw, device, resolution, init, file, mount, plain, raw, stop, Cmd, just, word, pair}
 use Rattle.rules.specs.Letters.{Draft, fault, draft, withOne, withAll, ignoring, oneByte, named, numberNamed, followedByWhite, withDummy, secondDigit, schemeOf, components, inScheme, coloured}
-use Rattle.rules.specs.Drawing.{lineEnds, closed, shapeOf, Form, exactly, dummied, paired, formOf, isPaired, inPairs, dummyBehind, drawn, inShape, drawing, pairwise, firstAcross}
+use Rattle.rules.specs.Drawing.{lineEnds, closed, shapeOf, Form, exactly, dummied, paired, formOf, isPaired, inPairs, dummyBehind, drawn, inShape, drawing, pairwise}
 use Rattle.rules.specs.Controls.{alone, resolutionOf, plainCount, plainly, rawText, rawLength, rawly, control, controlWord}
 use Rattle.rules.specs.Scan.{letter, isName, isPosition, isPositive, isComponent, isGray, cmdLimits, isSmall, outside, judgedBy, judged, command, Scan, got, bad}
 use Rattle.rules.specs.Record.{schemeLetter, shapeLetter}
@@ -26,6 +26,9 @@ use Rattle.laws_scan.proofs.Fair.{NumsAre, counted, command-good}
 use Rattle.laws_scan.proofs.Walk.{cons-at}
 use Rattle.scan_command.specs.View.{part, actOf}
 use Rattle.scan_command.proofs.Shift.{shifted, integers-shift, many-shift}
+use Rattle.scan_letters.specs.Selected.{partsOf}
+use Rattle.scan_letters.specs.declared.Parts.{Parts}
+use Rattle.scan_letters.specs.declared.Parts.the-variants as P
 use Rattle.scan_arguments.specs.declared.One.the-variants as A
 use Rattle.scan_lex.specs.At.{runEnd}
 use Rattle.scan_integer.specs.At.{cut, integerAt}
@@ -35,7 +38,7 @@ use Rattle.scan_arguments.proofs.Chains.{behind, ints, thenAt, ints-more, one-i
 use Rattle.scan_arguments.proofs.Pairs.{many, many-none, many-more}
 use Rattle.respell_model.proofs.Sheets.{signed-near}
 use Rattle.respell_model.specs.Sheet.{small}
-use Rattle.respell_model.specs.Lines.{signedArg, plainArg, argsFrom, partCount, partArgs, byteOf, behindLetter, behindWord, textAt, rawArg, lineOf}
+use Rattle.respell_model.specs.Lines.{signedArg, plainArg, argsFrom, threeArgs, partArgs, byteOf, behindLetter, behindWord, textAt, rawArg, lineOf}
 
 -- ---- numbers
 
@@ -137,26 +140,26 @@ part-last n h = rw (part-digits n [] h, append-nil (signedDecimal n))
 part-then : (n : ℕ) (ns t : List ℕ) → AllParts (n ∷ ns) → (AllParts ns → t ≡ args ns) → plainArg (n - origin) ++ t ≡ args (n ∷ ns)
 part-then n ns t h f = rw (part-digits n ns h, f (and-right (isComponent n) (allTrue (map isComponent ns)) h))
 
-three-parts : (a b c : ℕ) → AllParts (a ∷ b ∷ c ∷ []) → plainArg (a - origin) ++ (plainArg (b - origin) ++ plainArg (c - origin)) ≡ args (a ∷ b ∷ c ∷ [])
+three-parts : (a b c : ℕ) → AllParts (a ∷ b ∷ c ∷ []) → threeArgs (a - origin) (b - origin) (c - origin) ≡ args (a ∷ b ∷ c ∷ [])
 three-parts a b c h = part-then a (b ∷ c ∷ []) _ h (λ g. part-then b (c ∷ []) _ g (part-last c))
 
--- so many of the padded components
-abbrev parts : ℕ → List ℕ → List ℕ
+-- as many of the padded components as a scheme has
+abbrev parts : Parts → List ℕ → List ℕ
 parts n ns = partArgs n (part 0 ns) (part 1 ns) (part 2 ns) (part 3 ns)
 
-parts-one : (ns : List ℕ) → length ns ≡ 1 → AllParts ns → parts 1 ns ≡ args ns
+parts-one : (ns : List ℕ) → length ns ≡ 1 → AllParts ns → parts P.One ns ≡ args ns
 parts-one [] e h = absurd (omega arith)
 parts-one (a ∷ []) e h = part-last a h
 parts-one (a ∷ b ∷ ns) e h = absurd (omega arith)
 
-parts-three : (ns : List ℕ) → length ns ≡ 3 → AllParts ns → parts 3 ns ≡ args ns
+parts-three : (ns : List ℕ) → length ns ≡ 3 → AllParts ns → parts P.Three ns ≡ args ns
 parts-three [] e h = absurd (omega arith)
 parts-three (a ∷ []) e h = absurd (omega arith)
 parts-three (a ∷ b ∷ []) e h = absurd (omega arith)
 parts-three (a ∷ b ∷ c ∷ []) e h = three-parts a b c h
 parts-three (a ∷ b ∷ c ∷ d ∷ ns) e h = absurd (omega arith)
 
-parts-four : (ns : List ℕ) → length ns ≡ 4 → AllParts ns → parts 4 ns ≡ args ns
+parts-four : (ns : List ℕ) → length ns ≡ 4 → AllParts ns → parts P.Four ns ≡ args ns
 parts-four [] e h = absurd (omega arith)
 parts-four (a ∷ []) e h = absurd (omega arith)
 parts-four (a ∷ b ∷ []) e h = absurd (omega arith)
@@ -164,11 +167,11 @@ parts-four (a ∷ b ∷ c ∷ []) e h = absurd (omega arith)
 parts-four (a ∷ b ∷ c ∷ d ∷ []) e h = part-then a (b ∷ c ∷ d ∷ []) _ h (three-parts b c d)
 parts-four (a ∷ b ∷ c ∷ d ∷ f ∷ ns) e h = absurd (omega arith)
 
-parts-none : (ns : List ℕ) → length ns ≡ 0 → parts 0 ns ≡ args ns
+parts-none : (ns : List ℕ) → length ns ≡ 0 → parts P.Zero ns ≡ args ns
 parts-none [] e = refl
 parts-none (a ∷ ns) e = absurd (omega arith)
 
-parts-args : (c : Scheme) (ns : List ℕ) → length ns ≡ components c → AllParts ns → parts (partCount (schemeLetter c)) ns ≡ args ns
+parts-args : (c : Scheme) (ns : List ℕ) → length ns ≡ components c → AllParts ns → parts (partsOf (byteOf (schemeLetter c))) ns ≡ args ns
 parts-args cmy ns e h = parts-three ns e h
 parts-args default ns e h = parts-none ns e
 parts-args gray ns e h = parts-one ns e h
@@ -182,22 +185,13 @@ scheme-byte gray = refl
 scheme-byte cmyk = refl
 scheme-byte rgb = refl
 
--- ---- how many integers a drawing has
-
-half-even : (k : ℕ) (ns : List ℕ) → length ns ≡ 2 * k → 2 * pairwise ns .terms ≡ length ns
-half-even k [] e = refl
-half-even k (x ∷ []) e = absurd (omega arith)
-half-even k (x ∷ y ∷ ns) e = omega (arith, half-even (k - 1) ns (omega arith))
+-- ---- how many integers a drawing of pairs has
 
 half-paired : (ns : List ℕ) → isPaired ns ≡ true → 2 * pairwise ns .terms ≡ length ns
 half-paired [] h = refl
 half-paired (x ∷ []) h = no h
 half-paired (x ∷ y ∷ []) h = refl
 half-paired (x ∷ y ∷ z ∷ r) h = omega (arith, half-paired (z ∷ r) h)
-
-half-across : (ns : List ℕ) → length ns ≡ 2 → 2 * firstAcross ns .terms ≡ length ns
-half-across [] e = refl
-half-across (x ∷ ns) e = sym e
 
 -- ---- the text of `x X`
 
@@ -289,12 +283,12 @@ module _ (s : List ℕ) (at p l : ℕ) where
 
   draw-line : (x : Shape) (ns : List ℕ) → Good (draw x ns) → ActReads s at l (draw x ns) → Lined (draw x ns)
   unfolding spellAct
-  draw-line line ns g h = ap (λ (t : List ℕ). 68 ∷ 108 ∷ t) (count-args s _ _ ns (half-even 1 ns (g .1)) (g .0) (h refl))
-  draw-line arc ns g h = ap (λ (t : List ℕ). 68 ∷ 97 ∷ t) (count-args s _ _ ns (half-even 2 ns (g .1)) (g .0) (h refl))
+  draw-line line ns g h = ap (λ (t : List ℕ). 68 ∷ 108 ∷ t) (count-args s _ _ ns (sym (g .1)) (g .0) (h refl))
+  draw-line arc ns g h = ap (λ (t : List ℕ). 68 ∷ 97 ∷ t) (count-args s _ _ ns (sym (g .1)) (g .0) (h refl))
   draw-line circle ns g h = ap (λ (t : List ℕ). 68 ∷ 99 ∷ t) (count-args s _ _ ns (sym (g .1)) (g .0) (h refl))
   draw-line solidCircle ns g h = ap (λ (t : List ℕ). 68 ∷ 67 ∷ t) (count-args s _ _ ns (sym (g .1)) (g .0) (h refl))
-  draw-line ellipse ns g h = ap (λ (t : List ℕ). 68 ∷ 101 ∷ t) (count-args s _ _ ns (half-across ns (g .1)) (g .0) (h refl))
-  draw-line solidEllipse ns g h = ap (λ (t : List ℕ). 68 ∷ 69 ∷ t) (count-args s _ _ ns (half-across ns (g .1)) (g .0) (h refl))
+  draw-line ellipse ns g h = ap (λ (t : List ℕ). 68 ∷ 101 ∷ t) (count-args s _ _ ns (sym (g .1)) (g .0) (h refl))
+  draw-line solidEllipse ns g h = ap (λ (t : List ℕ). 68 ∷ 69 ∷ t) (count-args s _ _ ns (sym (g .1)) (g .0) (h refl))
   draw-line polygon ns g h = ap (λ (t : List ℕ). 68 ∷ 112 ∷ t) (count-args s _ _ ns (half-paired ns (g .1)) (upTo-near 64 ns (g .0)) (h refl))
   draw-line solidPolygon ns g h = ap (λ (t : List ℕ). 68 ∷ 80 ∷ t) (count-args s _ _ ns (half-paired ns (g .1)) (upTo-near 64 ns (g .0)) (h refl))
   draw-line spline ns g h = ap (λ (t : List ℕ). 68 ∷ 126 ∷ t) (count-args s _ _ ns (half-paired ns (g .1)) (upTo-near 64 ns (g .0)) (h refl))

@@ -1,6 +1,6 @@
 -- The line of one command in the house spelling, as the code makes it from the command and the stream. In the code's own steps.
 use Prim.Native.Nat.{ℕ, zero, suc, _+_, _*_, _-_}
-use mathlib.Core.Bool.{Bool, true, false, _||_, _&&_, not}
+use mathlib.Core.Bool.{Bool, true, false, _&&_, not}
 use mathlib.Core.List.{List, [], _∷_, _++_}
 use lib.Dec.{ltb, eqb}
 use lib.ListN.{length, take, drop, getD}
@@ -8,6 +8,13 @@ use Rattle.rules.specs.Bytes.{if_then_else_, bytes, is, isSpace, isNotWhite}
 use Rattle.rules.specs.House.{decimal}
 use Rattle.scan_command.specs.declared.Command.{Command}
 use Rattle.scan_command.specs.declared.Command.the-variants as C
+use Rattle.scan_letters.specs.Selected.{drawingOf, partsOf, controlOf}
+use Rattle.scan_letters.specs.declared.Drawing.{Drawing}
+use Rattle.scan_letters.specs.declared.Drawing.the-variants as D
+use Rattle.scan_letters.specs.declared.Parts.{Parts}
+use Rattle.scan_letters.specs.declared.Parts.the-variants as P
+use Rattle.scan_letters.specs.declared.Control.{Control}
+use Rattle.scan_letters.specs.declared.Control.the-variants as X
 use Rattle.scan_arguments.specs.declared.One.{One}
 use Rattle.scan_arguments.specs.declared.One.the-variants as A
 use Rattle.scan_lex.specs.At.{runEnd}
@@ -37,30 +44,40 @@ unfoldable pub argsFrom : ℕ → List ℕ → ℕ → List ℕ
 argsFrom zero s p = []
 argsFrom (suc n) s p = argThen (λ q. argsFrom n s q) (oneAt s p)
 
--- how many components a scheme has
-abbrev pub partCount : ℕ → ℕ
-partCount k =
-    if is "c" k then 3 else
-    if is "g" k then 1 else
-    if is "k" k then 4 else
-    if is "r" k then 3 else
-    0
+-- as many of the four components as a scheme has
+abbrev pub threeArgs : ℕ → ℕ → ℕ → List ℕ
+threeArgs a b c = plainArg a ++ (plainArg b ++ plainArg c)
 
--- so many of the four components: none, one, three or four
-abbrev pub partArgs : ℕ → ℕ → ℕ → ℕ → ℕ → List ℕ
-partArgs n a b c d =
-    if eqb n 0 then [] else
-    if ltb n 3 then plainArg a else
-    if ltb n 4 then plainArg a ++ (plainArg b ++ plainArg c) else
-    plainArg a ++ (plainArg b ++ (plainArg c ++ plainArg d))
+abbrev pub partArgs : Parts → ℕ → ℕ → ℕ → ℕ → List ℕ
+partArgs P.Zero a b c d = []
+partArgs P.One a b c d = plainArg a
+partArgs P.Three a b c d = threeArgs a b c
+partArgs P.Four a b c d = plainArg a ++ threeArgs b c d
+partArgs P.Unknown a b c d = []
 
--- how many integers a drawing keeps: the dummy of `Dc` and `DC` goes; k is how many pairs it moves by
-abbrev pub drawCount : ℕ → ℕ → ℕ
-drawCount b k = if is "c" b || (is "C" b || is "t" b) then 1 else 2 * k
+-- how many integers a drawing keeps: the dummy goes; k is how many pairs it moves by
+abbrev pub drawCount : Drawing → ℕ → ℕ
+drawCount (D.One m) k = 1
+drawCount (D.Dummied m) k = 1
+drawCount (D.Two m) k = 2
+drawCount D.Four k = 4
+drawCount D.Pairs k = 2 * k
+drawCount D.Gray k = 1
+drawCount D.Scheme k = 0
+drawCount D.Unknown k = 0
 
--- `x H`, `x S`, `x u` have one
-abbrev pub plainCount : ℕ → ℕ
-plainCount b = if is "H" b || (is "S" b || is "u" b) then 1 else 0
+-- and a control that changes nothing
+abbrev pub plainCount : Control → ℕ
+plainCount X.Device = 0
+plainCount X.Resolution = 0
+plainCount X.Init = 0
+plainCount X.File = 0
+plainCount X.Mount = 0
+plainCount X.Bare = 0
+plainCount (X.Number lo hi) = 1
+plainCount X.Stop = 0
+plainCount X.Text = 0
+plainCount X.Unknown = 0
 
 -- a letter as a byte
 abbrev pub byteOf : ℕ → ℕ
@@ -100,18 +117,18 @@ lineOf s at (C.By x i n) = []
 lineOf s at (C.Page i n) = 112 ∷ signedArg i
 lineOf s at (C.Font i n) = 102 ∷ plainArg i
 lineOf s at (C.Size i n) = 115 ∷ plainArg i
-lineOf s at (C.Colour k a b c d n) = 109 ∷ byteOf k ∷ partArgs (partCount k) a b c d
+lineOf s at (C.Colour k a b c d n) = 109 ∷ byteOf k ∷ partArgs (partsOf (byteOf k)) a b c d
 lineOf s at (C.Break n) = bytes "n 0 0"
 lineOf s at (C.Space n) = bytes "w"
-lineOf s at (C.Draw b h v k n) = 68 ∷ byteOf b ∷ argsFrom (drawCount b k) s (behindLetter s at)
+lineOf s at (C.Draw b h v k n) = 68 ∷ byteOf b ∷ argsFrom (drawCount (drawingOf (byteOf b)) k) s (behindLetter s at)
 lineOf s at (C.Gray i n) = 68 ∷ 102 ∷ signedArg i
-lineOf s at (C.Fill k a b c d n) = 68 ∷ 70 ∷ byteOf k ∷ partArgs (partCount k) a b c d
+lineOf s at (C.Fill k a b c d n) = 68 ∷ 70 ∷ byteOf k ∷ partArgs (partsOf (byteOf k)) a b c d
 lineOf s at (C.Device p l n) = bytes "x T" ++ nameArg s p l
 lineOf s at (C.Resolution q n) = bytes "x r" ++ argsFrom 3 s (behindWord s at)
 lineOf s at (C.Init n) = bytes "x i"
 lineOf s at (C.File p l n) = bytes "x F" ++ nameArg s p l
 lineOf s at (C.Mount i p l n) = bytes "x f" ++ (plainArg i ++ nameArg s p l)
-lineOf s at (C.Plain b n) = 120 ∷ 32 ∷ byteOf b ∷ argsFrom (plainCount b) s (behindWord s at)
+lineOf s at (C.Plain b n) = 120 ∷ 32 ∷ byteOf b ∷ argsFrom (plainCount (controlOf (byteOf b))) s (behindWord s at)
 lineOf s at (C.Raw n) = bytes "x X" ++ rawArg s (textAt s at) n
 lineOf s at (C.Stop n) = bytes "x s"
 lineOf s at (C.Refused i p) = []

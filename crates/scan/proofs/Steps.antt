@@ -13,7 +13,7 @@ use Rattle.rules.specs.Scan.{letter}
 use Rattle.scan_command.specs.declared.Command.{Command}
 use Rattle.scan_command.specs.declared.Command.the-variants as C
 use Rattle.scan_command.specs.View.{letterAt, commandAt}
-use Rattle.scan_close.proofs.Letters.{Unlike}
+use Rattle.scan_letters.proofs.Letters.{Unlike}
 
 -- the command at a place is that of its letter
 pub by-letter : (s : List ℕ) (at k : ℕ) (r : Command) → getD s at 0 ≡ k → r ≡ letterAt k s at → r ≡ commandAt s at

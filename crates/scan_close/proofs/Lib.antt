@@ -1,4 +1,3 @@
 pub mod Places
 pub mod Arguments
 pub mod Names
-pub mod Letters

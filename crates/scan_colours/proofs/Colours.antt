@@ -7,7 +7,8 @@ use mathlib.Core.List.{List, [], _∷_, map, append-nil}
 use mathlib.Core.Option.{Option, none, some}
 use mathlib.Core.Path.{_≡_, refl, sym, ap, _∙_}
 use borrow.Author.Needs.{needs}
-use borrow.Author.Tests.{ne-eqb}
+use borrow.Author.Tests.{eqb-true}
+use lib.Dec.{eqb}
 use lib.ListN.{length, drop, getD, length-map, drop-of-length-le}
 use lib.Seq.{drop-drop}
 use Rattle.rules.specs.Bytes.{if_then_else_, is, isSpace, origin, moved, Nums, short, nums, integers}
@@ -16,12 +17,15 @@ use Rattle.rules.specs.Letters.{withAll, schemeOf, components, inScheme, colour
 use Rattle.rules.specs.Drawing.{lineEnds, closed}
 use Rattle.rules.specs.Record.{schemeLetter}
 use Rattle.rules.specs.Scan.{isComponent, outside}
-use Rattle.laws.proofs.Cases.{on}
+use Rattle.laws.proofs.Cases.{on, if-on}
 use Rattle.laws_scan.proofs.Bounds.{NumsIn, integers-in}
 use Rattle.laws_scan.proofs.Walk.{cons-at}
 use Rattle.scan_command.specs.View.{part, letterAt}
 use Rattle.scan_command.specs.declared.Command.{Command}
 use Rattle.scan_command.specs.declared.Command.the-variants as K
+use Rattle.scan_letters.specs.Selected.{partsIn, partsBy, partsOf}
+use Rattle.scan_letters.specs.declared.Parts.{Parts}
+use Rattle.scan_letters.specs.declared.Parts.the-variants as P
 use Rattle.scan_lex.specs.At.{runEnd, breaksAt}
 use Rattle.scan_integer.specs.At.{cut}
 use Rattle.scan_arguments.specs.At.{oneAt, threeAt, fourAt}
@@ -34,8 +38,7 @@ use Rattle.scan_arguments.specs.declared.Four.the-variants as D
 use Rattle.scan_arguments.proofs.Chains.{ints}
 use Rattle.scan_arguments.proofs.Nums.{OneNums, ThreeNums, FourNums, one-nums, three-nums, four-nums, rest-at}
 use Rattle.scan_close.specs.Closed.{endedAt}
-use Rattle.scan_close.proofs.Letters.{Unlike, if-alike}
-use Rattle.scan_colours.specs.Parts.{componentsWith, componentsOf, componentsIn, componentsFrom, componentsAt, componentThen, oneBy, oneComponent, threeBy, threeComponents, fourBy, fourComponents, fillBy, fillSet, colourBy}
+use Rattle.scan_colours.specs.Parts.{componentsWith, componentsOf, componentsIn, componentsFrom, componentsAt, componentThen, noComponents, oneBy, oneComponent, threeBy, threeComponents, fourBy, fourComponents, fillBy, fillSet, colourBy}
 use Rattle.scan_colours.specs.declared.Components.{Components}
 use Rattle.scan_colours.specs.declared.Components.the-variants.{Fault, Over, Read}
 use Rattle.scan_colours.proofs.Placed.{placedWith, placedOf, colour-placed}
@@ -44,12 +47,12 @@ use Rattle.scan_colours.proofs.Limits.{judgedBy, judge-cut, outside-zer
 -- ---- components of a scheme that has one, three or four
 
 module _ (c : Scheme) (s : List ℕ) (j : ℕ) where
-  abbrev partsOf : ℕ → List ℕ → Components
-  partsOf l ns = Read (schemeLetter c) (part 0 ns) (part 1 ns) (part 2 ns) (part 3 ns) l
+  abbrev partsRead : ℕ → List ℕ → Components
+  partsRead l ns = Read (schemeLetter c) (part 0 ns) (part 1 ns) (part 2 ns) (part 3 ns) l
 
   judged : (l : ℕ) (ns ks : List ℕ) → length ns ≡ length ks
-      → judgedBy isComponent (λ k. Over k l) (partsOf l (map cut ns)) (map cut ns) ks ≡ componentsWith c ns l (outside (map isComponent ns) ks)
-  judged l ns ks e = rw outside-zero (judge-cut (componentsWith c ns l) 0 (partsOf l (map cut ns)) origin (origin + 65536) (omega arith) ns ks e (λ p. ap (partsOf l) p))
+      → judgedBy isComponent (λ k. Over k l) (partsRead l (map cut ns)) (map cut ns) ks ≡ componentsWith c ns l (outside (map isComponent ns) ks)
+  judged l ns ks e = rw outside-zero (judge-cut (componentsWith c ns l) 0 (partsRead l (map cut ns)) origin (origin + 65536) (omega arith) ns ks e (λ p. ap (partsRead l) p))
 
   one-are : components c ≡ 1 → oneComponent (schemeLetter c) s j ≡ componentsOf c (integers (components c) j (drop j s))
   unfolding oneComponent
@@ -78,26 +81,31 @@ module _ (c : Scheme) (s : List ℕ) (j : ℕ) where
           rw (h .are, h .size1, h .size2, h .size3, h .size4)
           (judged l (moved (h .first) ∷ moved (h .second) ∷ moved (h .third) ∷ moved (h .fourth) ∷ []) (i ∷ k ∷ m ∷ n ∷ []) refl)
 
--- ---- by the scheme's letter b, its components from j on
+-- ---- by what the scheme's letter b selects, its components from j on
 
-abbrev pub byScheme : ℕ → List ℕ → ℕ → Components
-byScheme b s j =
-    if is "c" b then threeComponents 99 s j else
-    if is "d" b then Read 100 0 0 0 0 j else
-    if is "g" b then oneComponent 103 s j else
-    if is "k" b then fourComponents 107 s j else
-    if is "r" b then threeComponents 114 s j else
-    Fault 3
+abbrev pub byParts : ℕ → List ℕ → ℕ → Parts → Components
+byParts b s j P.Zero = noComponents b j
+byParts b s j P.One = oneComponent b s j
+byParts b s j P.Three = threeComponents b s j
+byParts b s j P.Four = fourComponents b s j
+byParts b s j P.Unknown = Fault 3
 
-schemes-are : (b : ℕ) (s : List ℕ) (j : ℕ) → byScheme b s j ≡ componentsIn j (drop j s) (schemeOf b)
-unfolding integers
-schemes-are b s j =
-    let f : Option Scheme → Components = componentsIn j (drop j s) in
-    if-alike f (is "c" b) _ _ (some cmy) _ (three-are cmy s j refl)
-    (if-alike f (is "d" b) _ _ (some default) _ refl
-    (if-alike f (is "g" b) _ _ (some gray) _ (one-are gray s j refl)
-    (if-alike f (is "k" b) _ _ (some cmyk) _ (four-are cmyk s j refl)
-    (if-alike f (is "r" b) _ _ (some rgb) none (three-are rgb s j refl) refl))))
+module _ (b : ℕ) (s : List ℕ) (j : ℕ) where
+  -- what is answered for a scheme is what the definitions say of it
+  abbrev Said : Option Scheme → Type 0
+  Said o = byParts b s j (partsBy o) ≡ componentsIn j (drop j s) o
+
+  of-letter : (c : Scheme) → byParts (schemeLetter c) s j (partsIn c) ≡ componentsOf c (integers (components c) j (drop j s)) → eqb b (schemeLetter c) ≡ true → Said (some c)
+  of-letter c p e = rw (eqb-true b (schemeLetter c) e) p
+
+  schemes-are : Said (schemeOf b)
+  unfolding integers
+  schemes-are =
+      if-on Said (is "c" b) (some cmy) _ (of-letter cmy (three-are cmy s j refl)) (λ e.
+      if-on Said (is "d" b) (some default) _ (of-letter default refl) (λ e.
+      if-on Said (is "g" b) (some gray) _ (of-letter gray (one-are gray s j refl)) (λ e.
+      if-on Said (is "k" b) (some cmyk) _ (of-letter cmyk (four-are cmyk s j refl)) (λ e.
+      if-on Said (is "r" b) (some rgb) none (of-letter rgb (three-are rgb s j refl)) (λ e. refl)))))
 
 -- ---- the commands with components
 
@@ -216,17 +224,12 @@ module _ (s : List ℕ) (at : ℕ) where
   scheme-none h = rw (drop-of-length-le s h)
 
   module _ (h : at < length s) where
-    scheme-is : componentsAt s at ≡ byScheme (getD s at 0) s (at + 1)
+    scheme-is : componentsAt s at ≡ byParts (getD s at 0) s (at + 1) (partsOf (getD s at 0))
     unfolding componentsAt
     scheme-is = rw (cons-at s at h) (sym (schemes-are (getD s at 0) s (at + 1)))
 
-    pub by-scheme : (k : ℕ) (r : Components) → getD s at 0 ≡ k → r ≡ byScheme k s (at + 1) → r ≡ componentsAt s at
-    by-scheme k r e f = f ∙ sym (scheme-is ∙ rw e)
-
-    pub no-scheme : Unlike (getD s at 0) (114 ∷ 107 ∷ 103 ∷ 100 ∷ 99 ∷ []) → Fault 3 ≡ componentsAt s at
-    no-scheme n =
-        let b : ℕ = getD s at 0 in
-        sym (scheme-is ∙ rw (ne-eqb b 99 (n .0 .0 .0 .0 .1), ne-eqb b 100 (n .0 .0 .0 .1), ne-eqb b 103 (n .0 .0 .1), ne-eqb b 107 (n .0 .1), ne-eqb b 114 (n .1)))
+    pub by-parts : (q d : Parts) (r : Components) → q ≡ partsOf (getD s at 0) → q ≡ d → r ≡ byParts (getD s at 0) s (at + 1) d → r ≡ componentsAt s at
+    by-parts q d r g e f = f ∙ sym (scheme-is ∙ rw (sym g ∙ e))
 
 -- ---- `DF`
 
@@ -244,4 +247,4 @@ module _ (s : List ℕ) (at i : ℕ) where
     unfolding fillSet
     fill-read scheme x y z w l h r f = rw (f, ← g, h)
 
-pub ruleset colours = (component-in, component-out, one-short, one-read, three-short, three-read, four-short, four-read, scheme-none, by-scheme, no-scheme, colour-fault, colour-over, colour-read, fill-fault, fill-over, fill-read, needs)
+pub ruleset colours = (component-in, component-out, one-short, one-read, three-short, three-read, four-short, four-read, scheme-none, by-parts, colour-fault, colour-over, colour-read, fill-fault, fill-over, fill-read, needs)

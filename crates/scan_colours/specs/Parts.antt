@@ -44,7 +44,10 @@ componentsFrom k (b ∷ r) = componentsIn (k + 1) r (schemeOf b)
 unfoldable pub componentsAt : List ℕ → ℕ → Components
 componentsAt s at = componentsFrom at (drop at s)
 
--- one, three or four components from a place on, of a scheme's letter
+-- no, one, three or four components from a place on, of a scheme's letter
+
+abbrev pub noComponents : ℕ → ℕ → Components
+noComponents scheme at = Read scheme 0 0 0 0 at
 
 abbrev pub componentThen : ℕ → ℕ → ℕ → Components → Components
 componentThen n place next rest = if isComponent n then rest else Over place next

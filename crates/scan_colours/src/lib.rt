@@ -4,12 +4,13 @@ use scan_arguments::Four;
 use scan_arguments::One;
 use scan_arguments::Three;
 use scan_command::Command;
+use scan_letters::Parts;
 ghost use mathlib.Core.Path.{_≡_};
 ghost use Prim.Native.Nat.{_<_};
 ghost use lib.ListN.{length};
 ghost use Rattle.rules.specs.Scan.{isComponent};
 ghost use Rattle.scan_command.specs.View.{letterAt};
-ghost use Rattle.scan_colours.specs.Parts.{componentThen, oneComponent, threeComponents, fourComponents, componentsAt, fillSet};
+ghost use Rattle.scan_colours.specs.Parts.{componentThen, noComponents, oneComponent, threeComponents, fourComponents, componentsAt, fillSet};
 
 // What stands where a scheme's letter and its components are due: the number of a refusal; where the first component outside its
 // limit begins; or the letter and the components, those that are not used 0. `next` is the place behind the last component.
@@ -48,14 +49,27 @@ fn component(n: u32, place: usize, next: usize, rest: Components) -> Components
     }
 }
 
-fn one_component(s: &[u8], at: usize, scheme: u32) -> Components
+fn no_components(next: usize, scheme: u8) -> Components
+    ensures { λ r. ⌜ r ≡ noComponents scheme next ⌝ }
+{
+    Components::Read {
+        scheme: scheme as u32,
+        a: 0,
+        b: 0,
+        c: 0,
+        d: 0,
+        next,
+    }
+}
+
+fn one_component(s: &[u8], at: usize, scheme: u8) -> Components
     ensures { λ r. ⌜ r ≡ oneComponent scheme (now (s .entry)) at ⌝ }
 {
     match scan_arguments::one_at(s, at) {
         One::Short => Components::Fault { number: 4 },
         One::Read { a, pa, next } => {
             let all = Components::Read {
-                scheme,
+                scheme: scheme as u32,
                 a: scan_integer::unmoved(a),
                 b: 0,
                 c: 0,
@@ -67,7 +81,7 @@ fn one_component(s: &[u8], at: usize, scheme: u32) -> Components
     }
 }
 
-fn three_components(s: &[u8], at: usize, scheme: u32) -> Components
+fn three_components(s: &[u8], at: usize, scheme: u8) -> Components
     ensures { λ r. ⌜ r ≡ threeComponents scheme (now (s .entry)) at ⌝ }
 {
     match scan_arguments::three_at(s, at) {
@@ -82,7 +96,7 @@ fn three_components(s: &[u8], at: usize, scheme: u32) -> Components
             next,
         } => {
             let all = Components::Read {
-                scheme,
+                scheme: scheme as u32,
                 a: scan_integer::unmoved(a),
                 b: scan_integer::unmoved(b),
                 c: scan_integer::unmoved(c),
@@ -95,7 +109,7 @@ fn three_components(s: &[u8], at: usize, scheme: u32) -> Components
     }
 }
 
-fn four_components(s: &[u8], at: usize, scheme: u32) -> Components
+fn four_components(s: &[u8], at: usize, scheme: u8) -> Components
     ensures { λ r. ⌜ r ≡ fourComponents scheme (now (s .entry)) at ⌝ }
 {
     match scan_arguments::four_at(s, at) {
@@ -112,7 +126,7 @@ fn four_components(s: &[u8], at: usize, scheme: u32) -> Components
             next,
         } => {
             let all = Components::Read {
-                scheme,
+                scheme: scheme as u32,
                 a: scan_integer::unmoved(a),
                 b: scan_integer::unmoved(b),
                 c: scan_integer::unmoved(c),
@@ -133,21 +147,13 @@ fn components_at(s: &[u8], at: usize) -> Components
         return Components::Fault { number: 3 };
     }
     let next = at + 1;
-    let letter = s[at];
-    match letter {
-        b'c' => three_components(s, next, 99),
-        b'd' => Components::Read {
-            scheme: 100,
-            a: 0,
-            b: 0,
-            c: 0,
-            d: 0,
-            next,
-        },
-        b'g' => one_component(s, next, 103),
-        b'k' => four_components(s, next, 107),
-        b'r' => three_components(s, next, 114),
-        _ => Components::Fault { number: 3 },
+    let scheme = s[at];
+    match scan_letters::parts_of(scheme) {
+        Parts::Zero => no_components(next, scheme),
+        Parts::One => one_component(s, next, scheme),
+        Parts::Three => three_components(s, next, scheme),
+        Parts::Four => four_components(s, next, scheme),
+        Parts::Unknown => Components::Fault { number: 3 },
     }
 }
 

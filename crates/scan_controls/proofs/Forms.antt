@@ -3,12 +3,13 @@
 use Prim.Native.Nat.{ℕ, _+_, _-_, _≤_, _<_}
 use native.Mathlib.Omega.{arith}
 use native.Mathlib.Nat.{add-zero}
+use mathlib.Core.Bool.{true}
 use mathlib.Core.List.{List, [], _∷_, _++_, map, map-append}
 use mathlib.Core.Path.{_≡_, refl, sym, ap, _∙_}
-use lib.Dec.{leb}
+use lib.Dec.{leb, eqb}
 use lib.ListN.{length, take, drop, getD, drop-of-length-le}
 use lib.Seq.{drop-drop}
-use borrow.Author.Tests.{leb-true, leb-false}
+use borrow.Author.Tests.{leb-true, leb-false, eqb-true}
 use Rattle.rules.specs.Bytes.{if_then_else_, is, isSpace, isWhite, isNotWhite, spacer, unspaced, string, nameMost, origin, moved, within, Nums, integers}
 use Rattle.rules.specs.Act.{Plain, pause, trailer, height, slant, underline, Act, device, resolution, init, file, mount, plain, raw, stop, just}
 use Rattle.rules.specs.Letters.{Draft, fault, draft, withAll, named, numberNamed}
@@ -16,12 +17,15 @@ use Rattle.rules.specs.Drawing.{closed}
 use Rattle.rules.specs.Controls.{resolutionOf, rawText, rawLength, rawly, control}
 use Rattle.rules.specs.Record.{plainLetter}
 use Rattle.rules.specs.Scan.{limits, plainLimits, outside, isPosition, isPositive, letter}
-use Rattle.laws.proofs.Cases.{on}
+use Rattle.laws.proofs.Cases.{on, no}
 use Rattle.laws_scan.proofs.Walk.{cons-at}
 use Rattle.scan_command.specs.View.{actOf, draftOf, letterAt}
 use Rattle.scan_command.specs.declared.Command.{Command}
 use Rattle.scan_command.specs.declared.Command.the-variants as K
 use Rattle.scan_command.proofs.Shift.{shifted}
+use Rattle.scan_letters.specs.Selected.{controlOf}
+use Rattle.scan_letters.specs.declared.Control.{Control}
+use Rattle.scan_letters.specs.declared.Control.the-variants as L
 use Rattle.scan_lex.specs.At.{runEnd}
 use Rattle.scan_arguments.specs.At.{oneAt, threeAt}
 use Rattle.scan_arguments.specs.declared.One.{One}
@@ -30,11 +34,11 @@ use Rattle.scan_arguments.specs.declared.Three.{Three}
 use Rattle.scan_arguments.specs.declared.Three.the-variants as C
 use Rattle.scan_lex.proofs.Runs.{unspaced-at}
 use Rattle.scan_arguments.proofs.Nums.{OneNums, ThreeNums}
-use Rattle.scan_controls.specs.Parts.{namedTo, nameFrom, nameTo, nameBy, deviceAt, fileAt, mountedAt, mountBy, mountAt, plainBy, plainAt, resolutionBy, resolutionAt}
+use Rattle.scan_controls.specs.Parts.{namedTo, nameFrom, nameTo, nameBy, deviceAt, fileAt, mountedAt, mountBy, mountAt, bareAt, plainBy, plainAt, resolutionBy, resolutionAt}
 use Rattle.scan_close.specs.Closed.{withinOr, endedAt}
 use Rattle.scan_close.proofs.Places.{one-shape, three-shape, answered, short-back, nums-back, within-cut}
 use Rattle.scan_close.proofs.Names.{take-is, named-none, named-some}
-use Rattle.scan_close.proofs.Letters.{if-alike}
+use Rattle.scan_letters.proofs.Letters.{if-alike}
 use Rattle.scan_raw.specs.Parts.{textAt, rawAt}
 use Rattle.scan_controls.proofs.Places.{draft-is, closed-is, outside-more, answer-cut}
 
@@ -151,50 +155,57 @@ module _ (s : List ℕ) (at k : ℕ) where
       (draft-is at (raw (rawText r)) (j ∷ []) (p ∷ []) 0 (j + rawLength r) (p + rawLength r) (drop (rawLength r) r) (rw z) (omega arith) y
       ∙ outside-more (K.Raw (p + rawLength r)) (leb (length (rawText r)) 4096) [] p [])
 
-abbrev pub byControl : ℕ → List ℕ → ℕ → ℕ → Command
-byControl b s at j =
-    if is "T" b then deviceAt s at j else
-    if is "r" b then resolutionAt s at j else
-    if is "i" b then endedAt s at j (K.Init j) else
-    if is "F" b then fileAt s at j else
-    if is "f" b then mountAt s at j else
-    if is "H" b then plainAt 72 1 199999999 s at j else
-    if is "S" b then plainAt 83 1 199999999 s at j else
-    if is "p" b then endedAt s at j (K.Plain 112 j) else
-    if is "t" b then endedAt s at j (K.Plain 116 j) else
-    if is "u" b then plainAt 117 100000000 100000001 s at j else
-    if is "s" b then endedAt s at j (K.Stop j) else
-    if is "X" b then rawAt s j else
-    K.Refused 3 at
+abbrev pub byControl : ℕ → List ℕ → ℕ → ℕ → Control → Command
+byControl b s at j L.Device = deviceAt s at j
+byControl b s at j L.Resolution = resolutionAt s at j
+byControl b s at j L.Init = endedAt s at j (K.Init j)
+byControl b s at j L.File = fileAt s at j
+byControl b s at j L.Mount = mountAt s at j
+byControl b s at j L.Bare = endedAt s at j (bareAt b j)
+byControl b s at j (L.Number lo hi) = plainAt b lo hi s at j
+byControl b s at j L.Stop = endedAt s at j (K.Stop j)
+byControl b s at j L.Text = rawAt s j
+byControl b s at j L.Unknown = K.Refused 3 at
 
-control-is : (b : ℕ) (s : List ℕ) (at k : ℕ) → byControl b s at (at + k) ≡ draftOf at (control b k (drop (at + k) s))
-unfolding control deviceAt fileAt mountAt resolutionAt integers
-control-is b s at k =
-    let f : Draft → Command = λ d. draftOf at d in
-    if-alike f (is "T" b) _ _ _ _ (sym (name-is device K.Device s at k (at + k) refl (λ n. refl) (λ p e n. refl)))
-    (if-alike f (is "r" b) _ _ _ _ (sym (resolution-by s at (integers 3 k (drop (at + k) s)) (threeAt s (at + k)) (three-shape s at k)))
-    (if-alike f (is "i" b) _ _ _ _ (sym (alone-is s at k init refl))
-    (if-alike f (is "F" b) _ _ _ _ (sym (name-is file K.File s at k (at + k) refl (λ n. refl) (λ p e n. refl)))
-    (if-alike f (is "f" b) _ _ _ _ (sym (mount-by s at (integers 1 k (drop (at + k) s)) (oneAt s (at + k)) (one-shape s at k)))
-    (if-alike f (is "H" b) _ _ _ _ (sym (plain-is s at k height 1 199999999 (omega arith) (λ n. refl)))
-    (if-alike f (is "S" b) _ _ _ _ (sym (plain-is s at k slant 1 199999999 (omega arith) (λ n. refl)))
-    (if-alike f (is "p" b) _ _ _ _ (sym (alone-is s at k (plain pause []) refl))
-    (if-alike f (is "t" b) _ _ _ _ (sym (alone-is s at k (plain trailer []) refl))
-    (if-alike f (is "u" b) _ _ _ _ (sym (plain-is s at k underline 100000000 100000001 (omega arith) (λ n. refl)))
-    (if-alike f (is "s" b) _ _ _ _ (sym (alone-is s at k stop refl))
-    (if-alike f (is "X" b) _ _ _ _ (sym (raw-is s at k)) (rw add-zero))))))))))))
+module _ (b : ℕ) (s : List ℕ) (at k : ℕ) where
+  -- the controls that change nothing
+  number-is : (c : Plain) (lo hi : ℕ) → hi < 200000000 → ((n : ℕ) → plainLimits c (n ∷ []) ≡ within lo hi n ∷ []) → eqb b (plainLetter c) ≡ true
+      → byControl b s at (at + k) (L.Number lo hi) ≡ draftOf at (closed (withAll (plain c) (integers 1 k (drop (at + k) s))))
+  number-is c lo hi u l e = rw (eqb-true b (plainLetter c) e) (sym (plain-is s at k c lo hi u l))
+
+  bare-is : (c : Plain) → limits (plain c []) ≡ [] → eqb b (plainLetter c) ≡ true
+      → byControl b s at (at + k) L.Bare ≡ draftOf at (closed (draft (just (plain c [])) [] [] 0 k (drop (at + k) s)))
+  bare-is c l e = rw (eqb-true b (plainLetter c) e) (sym (alone-is s at k (plain c []) l))
+
+  control-is : byControl b s at (at + k) (controlOf b) ≡ draftOf at (control b k (drop (at + k) s))
+  unfolding control deviceAt fileAt mountAt resolutionAt integers
+  control-is =
+      let f : Control → Command = λ c. byControl b s at (at + k) c in
+      let g : Draft → Command = λ d. draftOf at d in
+      if-alike f g (is "T" b) _ _ _ _ (λ e. sym (name-is device K.Device s at k (at + k) refl (λ n. refl) (λ p e n. refl))) (λ e.
+      if-alike f g (is "r" b) _ _ _ _ (λ e. sym (resolution-by s at (integers 3 k (drop (at + k) s)) (threeAt s (at + k)) (three-shape s at k))) (λ e.
+      if-alike f g (is "i" b) _ _ _ _ (λ e. sym (alone-is s at k init refl)) (λ e.
+      if-alike f g (is "F" b) _ _ _ _ (λ e. sym (name-is file K.File s at k (at + k) refl (λ n. refl) (λ p e n. refl))) (λ e.
+      if-alike f g (is "f" b) _ _ _ _ (λ e. sym (mount-by s at (integers 1 k (drop (at + k) s)) (oneAt s (at + k)) (one-shape s at k))) (λ e.
+      if-alike f g (is "H" b) _ _ _ _ (number-is height 1 199999999 (omega arith) (λ n. refl)) (λ e.
+      if-alike f g (is "S" b) _ _ _ _ (number-is slant 1 199999999 (omega arith) (λ n. refl)) (λ e.
+      if-alike f g (is "p" b) _ _ _ _ (bare-is pause refl) (λ e.
+      if-alike f g (is "t" b) _ _ _ _ (bare-is trailer refl) (λ e.
+      if-alike f g (is "u" b) _ _ _ _ (number-is underline 100000000 100000001 (omega arith) (λ n. refl)) (λ e.
+      if-alike f g (is "s" b) _ _ _ _ (λ e. sym (alone-is s at k stop refl)) (λ e.
+      if-alike f g (is "X" b) _ _ _ _ (λ e. sym (raw-is s at k)) (λ e. rw add-zero))))))))))))
 
 -- ---- by the word at i, which ends at j
 
-abbrev pub byWord : ℕ → List ℕ → ℕ → ℕ → Command
-byWord b s at j = if isWhite b then K.Refused 3 at else byControl b s at j
+white-is : (b : ℕ) → isWhite b ≡ true → controlOf b ≡ L.Unknown
+white-is b h = on (is " " b) (λ e. rw (eqb-true b 32 e)) (λ e. on (is "\t" b) (λ f. rw (eqb-true b 9 f)) (λ f. on (is "\n" b) (λ g. rw (eqb-true b 10 g)) (λ g. no (rw (e, f, g) at h))))
 
 module _ (s : List ℕ) (at i : ℕ) (p : i ≡ runEnd isSpace s (at + 1)) where
   pub word-none : length s ≤ i → K.Refused 3 at ≡ letterAt 120 s at
   unfolding letterAt letter
   word-none h = sym (rw (unspaced-at s (at + 1), ← p, drop-of-length-le s h, add-zero))
 
-  pub word-is : i < length s → (j : ℕ) → j ≡ runEnd isNotWhite s (i + 1) → letterAt 120 s at ≡ byWord (getD s i 0) s at j
+  pub word-is : i < length s → (j : ℕ) → j ≡ runEnd isNotWhite s (i + 1) → letterAt 120 s at ≡ byControl (getD s i 0) s at j (controlOf (getD s i 0))
   unfolding letterAt letter runEnd
   word-is h j q =
       let b : ℕ = getD s i 0 in
@@ -204,4 +215,6 @@ module _ (s : List ℕ) (at i : ℕ) (p : i ≡ runEnd isSpace s (at + 1)) where
       let y : i + 1 + n ≡ at + k = omega (arith, p) in
       let d : drop n (drop (i + 1) s) ≡ drop (at + k) s = drop-drop n (i + 1) s ∙ rw y in
       rw (unspaced-at s (at + 1), ← p, cons-at s i h, d, ← z)
-      (sym (if-alike (λ (x : Draft). draftOf at x) (isWhite b) (K.Refused 3 at) (byControl b s at (at + k)) (fault 3) (control b k (drop (at + k) s)) (rw add-zero) (control-is b s at k)))
+      (on (isWhite b)
+      (λ w. rw (w, white-is b w, add-zero))
+      (λ w. rw w (sym (control-is b s at k))))

@@ -5,13 +5,15 @@ use mathlib.Core.List.{List, [], _∷_}
 use mathlib.Core.Path.{_≡_, sym, _∙_}
 use lib.ListN.{length, getD}
 use borrow.Author.Needs.{needs}
-use borrow.Author.Tests.{ne-eqb, le-leb, lt-leb}
-use Rattle.rules.specs.Bytes.{isSpace, isWhite, isNotWhite, within}
+use borrow.Author.Tests.{le-leb, lt-leb}
+use Rattle.rules.specs.Bytes.{isSpace, isNotWhite, within}
 use Rattle.rules.specs.Scan.{isPosition, isPositive}
-use Rattle.laws.proofs.Cases.{on}
 use Rattle.scan_command.specs.View.{letterAt}
 use Rattle.scan_command.specs.declared.Command.{Command}
 use Rattle.scan_command.specs.declared.Command.the-variants as K
+use Rattle.scan_letters.specs.Selected.{controlOf}
+use Rattle.scan_letters.specs.declared.Control.{Control}
+use Rattle.scan_letters.specs.declared.Control.the-variants as L
 use Rattle.scan_lex.specs.At.{runEnd}
 use Rattle.scan_arguments.specs.At.{oneAt, threeAt}
 use Rattle.scan_arguments.specs.declared.One.{One}
@@ -20,9 +22,8 @@ use Rattle.scan_arguments.specs.declared.Three.{Three}
 use Rattle.scan_arguments.specs.declared.Three.the-variants as C
 use Rattle.scan_lex.proofs.Runs.{run-from}
 use Rattle.scan_close.specs.Closed.{withinOr, endedAt}
-use Rattle.scan_close.proofs.Letters.{Unlike}
-use Rattle.scan_controls.specs.Parts.{namedTo, shortName, deviceAt, fileAt, mountedAt, mountAt, plainAt, resolutionAt}
-use Rattle.scan_controls.proofs.Forms.{byWord, word-none, word-is}
+use Rattle.scan_controls.specs.Parts.{namedTo, shortName, deviceAt, fileAt, mountedAt, mountAt, bareAt, plainAt, resolutionAt}
+use Rattle.scan_controls.proofs.Forms.{byControl, word-none, word-is}
 
 -- ---- names
 
@@ -68,10 +69,10 @@ module _ (s : List ℕ) (at i : ℕ) (q : One) (g : q ≡ oneAt s i) where
     unfolding plainAt
     plain-short h = rw (← g, h)
 
-    pub plain-read : (a pa n : ℕ) (t : Bool) (r x : Command) → q ≡ A.Read a pa n → t ≡ within lo hi a → x ≡ withinOr t pa (K.Plain letter n)
+    pub plain-read : (a pa n : ℕ) (t : Bool) (r x y : Command) → q ≡ A.Read a pa n → t ≡ within lo hi a → y ≡ bareAt letter n → x ≡ withinOr t pa y
         → r ≡ endedAt s at n x → r ≡ plainAt letter lo hi s at i
     unfolding plainAt
-    plain-read a pa n t r x h v k f = rw (f, k, v, ← g, h)
+    plain-read a pa n t r x y h v l k f = rw (f, k, l, v, ← g, h)
 
 module _ (s : List ℕ) (at i : ℕ) (q : Three) (g : q ≡ threeAt s i) where
   pub resolution-short : q ≡ C.Short → K.Refused 4 at ≡ resolutionAt s at i
@@ -87,16 +88,11 @@ module _ (s : List ℕ) (at i : ℕ) (q : Three) (g : q ≡ threeAt s i) where
 -- ---- the letter
 
 module _ (s : List ℕ) (at i : ℕ) (p : i ≡ runEnd isSpace s (at + 1)) (h : i < length s) (j : ℕ) (q : j ≡ runEnd isNotWhite s (i + 1)) where
-  pub by-letter : (k : ℕ) (r : Command) → getD s i 0 ≡ k → r ≡ byWord k s at j → r ≡ letterAt 120 s at
-  by-letter k r e f = f ∙ sym (word-is s at i p h j q ∙ rw e)
+  module _ (k : Control) (g : k ≡ controlOf (getD s i 0)) where
+    pub by-control : (d : Control) (r : Command) → k ≡ d → r ≡ byControl (getD s i 0) s at j d → r ≡ letterAt 120 s at
+    by-control d r e f = f ∙ sym (word-is s at i p h j q ∙ rw (sym g ∙ e))
 
-pub no-letter : (s : List ℕ) (at i j : ℕ) → i ≡ runEnd isSpace s (at + 1) → i < length s → j ≡ runEnd isNotWhite s (i + 1)
-    → Unlike (getD s i 0) (88 ∷ 115 ∷ 117 ∷ 116 ∷ 112 ∷ 83 ∷ 72 ∷ 102 ∷ 70 ∷ 105 ∷ 114 ∷ 84 ∷ [])
-    → K.Refused 3 at ≡ letterAt 120 s at
-no-letter s at i j p h q n =
-    let b : ℕ = getD s i 0 in
-    sym (word-is s at i p h j q
-    ∙ rw (ne-eqb b 84 (n .0 .0 .0 .0 .0 .0 .0 .0 .0 .0 .0 .1), ne-eqb b 114 (n .0 .0 .0 .0 .0 .0 .0 .0 .0 .0 .1), ne-eqb b 105 (n .0 .0 .0 .0 .0 .0 .0 .0 .0 .1), ne-eqb b 70 (n .0 .0 .0 .0 .0 .0 .0 .0 .1), ne-eqb b 102 (n .0 .0 .0 .0 .0 .0 .0 .1), ne-eqb b 72 (n .0 .0 .0 .0 .0 .0 .1), ne-eqb b 83 (n .0 .0 .0 .0 .0 .1), ne-eqb b 112 (n .0 .0 .0 .0 .1), ne-eqb b 116 (n .0 .0 .0 .1), ne-eqb b 117 (n .0 .0 .1), ne-eqb b 115 (n .0 .1), ne-eqb b 88 (n .1))
-    (on (isWhite b) (λ w. rw w) (λ w. rw w)))
+    pub by-bare : (r x : Command) → k ≡ L.Bare → x ≡ bareAt (getD s i 0) j → r ≡ endedAt s at j x → r ≡ letterAt 120 s at
+    by-bare r x e l f = by-control L.Bare r e (rw (f, l))
 
-pub ruleset steps = (named-none, named-some, name-order, device-is, file-is, mounted-is, mount-short, mount-read, plain-short, plain-read, resolution-short, resolution-read, word-none, by-letter, no-letter, needs)
+pub ruleset steps = (named-none, named-some, name-order, device-is, file-is, mounted-is, mount-short, mount-read, plain-short, plain-read, resolution-short, resolution-read, word-none, by-control, by-bare, needs)

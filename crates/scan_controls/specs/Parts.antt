@@ -54,9 +54,13 @@ mountBy s at (A.Read a pa n) = mountedAt a pa s at n
 unfoldable pub mountAt : List ℕ → ℕ → ℕ → Command
 mountAt s at i = mountBy s at (oneAt s i)
 
+-- a control that changes nothing
+abbrev pub bareAt : ℕ → ℕ → Command
+bareAt letter next = K.Plain letter next
+
 abbrev pub plainBy : ℕ → ℕ → ℕ → List ℕ → ℕ → One → Command
 plainBy letter lo hi s at A.Short = K.Refused 4 at
-plainBy letter lo hi s at (A.Read a pa n) = endedAt s at n (withinOr (within lo hi a) pa (K.Plain letter n))
+plainBy letter lo hi s at (A.Read a pa n) = endedAt s at n (withinOr (within lo hi a) pa (bareAt letter n))
 
 unfoldable pub plainAt : ℕ → ℕ → ℕ → List ℕ → ℕ → ℕ → Command
 plainAt letter lo hi s at i = plainBy letter lo hi s at (oneAt s i)

@@ -3,12 +3,13 @@
 use scan_arguments::One;
 use scan_arguments::Three;
 use scan_command::Command;
+use scan_letters::Control;
 ghost use mathlib.Core.Path.{_≡_};
 ghost use Prim.Native.Nat.{_<_};
 ghost use lib.ListN.{length};
 ghost use Rattle.rules.specs.Scan.{isPosition, isPositive};
 ghost use Rattle.scan_command.specs.View.{letterAt};
-ghost use Rattle.scan_controls.specs.Parts.{namedTo, shortName, deviceAt, fileAt, mountedAt, mountAt, plainAt, resolutionAt};
+ghost use Rattle.scan_controls.specs.Parts.{namedTo, shortName, deviceAt, fileAt, mountedAt, mountAt, bareAt, plainAt, resolutionAt};
 
 // From 1 to 99,999,999.
 fn is_positive(n: u32) -> bool
@@ -96,8 +97,18 @@ fn mount(s: &[u8], at: usize, i: usize) -> Command
     }
 }
 
-// `H`, `S`, `u`: one integer from lo to hi.
-fn plain(s: &[u8], at: usize, i: usize, letter: u32, lo: u32, hi: u32) -> Command
+// A control that changes nothing.
+fn bare(letter: u8, next: usize) -> Command
+    ensures { λ r. ⌜ r ≡ bareAt letter next ⌝ }
+{
+    Command::Plain {
+        letter: letter as u32,
+        next,
+    }
+}
+
+// One integer from lo to hi.
+fn plain(s: &[u8], at: usize, i: usize, letter: u8, lo: u32, hi: u32) -> Command
     ensures { λ r. ⌜ r ≡ plainAt letter lo hi (now (s .entry)) at i ⌝ }
 {
     match scan_arguments::one_at(s, i) {
@@ -106,7 +117,7 @@ fn plain(s: &[u8], at: usize, i: usize, letter: u32, lo: u32, hi: u32) -> Comman
             place: at,
         },
         One::Read { a, pa, next } => {
-            let c = Command::Plain { letter, next };
+            let c = bare(letter, next);
             scan_close::ending(
                 s,
                 at,
@@ -164,20 +175,17 @@ pub fn control(s: &[u8], at: usize) -> Command
     }
     let next = scan_lex::string_end(s, i + 1);
     let letter = s[i];
-    match letter {
-        b'T' => device(s, at, next),
-        b'r' => resolution(s, at, next),
-        b'i' => scan_close::ending(s, at, next, Command::Init { next }),
-        b'F' => file(s, at, next),
-        b'f' => mount(s, at, next),
-        b'H' => plain(s, at, next, 72, 1, 199_999_999),
-        b'S' => plain(s, at, next, 83, 1, 199_999_999),
-        b'p' => scan_close::ending(s, at, next, Command::Plain { letter: 112, next }),
-        b't' => scan_close::ending(s, at, next, Command::Plain { letter: 116, next }),
-        b'u' => plain(s, at, next, 117, 100_000_000, 100_000_001),
-        b's' => scan_close::ending(s, at, next, Command::Stop { next }),
-        b'X' => scan_raw::raw(s, next),
-        _ => Command::Refused {
+    match scan_letters::control_of(letter) {
+        Control::Device => device(s, at, next),
+        Control::Resolution => resolution(s, at, next),
+        Control::Init => scan_close::ending(s, at, next, Command::Init { next }),
+        Control::File => file(s, at, next),
+        Control::Mount => mount(s, at, next),
+        Control::Bare => scan_close::ending(s, at, next, bare(letter, next)),
+        Control::Number { lo, hi } => plain(s, at, next, letter, lo, hi),
+        Control::Stop => scan_close::ending(s, at, next, Command::Stop { next }),
+        Control::Text => scan_raw::raw(s, next),
+        Control::Unknown => Command::Refused {
             number: 3,
             place: at,
         },

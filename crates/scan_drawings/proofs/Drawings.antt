@@ -3,23 +3,30 @@
 use Prim.Native.Nat.{ℕ, suc, _+_, _-_, _≤_, _<_}
 use native.Mathlib.Omega.{arith}
 use native.Mathlib.Nat.{add-zero}
+use mathlib.Core.Bool.{true}
 use mathlib.Core.List.{List, [], _∷_, _++_, map, append-nil}
 use mathlib.Core.Option.{Option, none, some}
 use mathlib.Core.Path.{_≡_, refl, sym, ap, _∙_}
 use borrow.Author.Needs.{needs}
-use borrow.Author.Tests.{ne-eqb}
+use borrow.Author.Tests.{eqb-true}
+use lib.Dec.{eqb}
 use lib.ListN.{length, drop, getD, length-map, drop-of-length-le}
-use Rattle.rules.specs.Bytes.{if_then_else_, is, isSpace, spacer, unspaced, origin, moved, within, near, Num, Nums, nums, manyIntegers, perhapsInteger}
+use Rattle.rules.specs.Bytes.{is, isSpace, spacer, unspaced, origin, moved, within, near, Num, Nums, nums, manyIntegers, perhapsInteger}
 use Rattle.rules.specs.Act.{Shape, line, arc, circle, solidCircle, ellipse, solidEllipse, polygon, solidPolygon, spline, thickness, grayFill, colourFill, draw, just}
 use Rattle.rules.specs.Letters.{Draft, draft, withAll, coloured}
 use Rattle.rules.specs.Drawing.{lineEnds, closed, shapeOf, exactly, dummied, paired, formOf, inPairs, dummyBehind, drawn, inShape, drawing, pairwise}
 use Rattle.rules.specs.Record.{shapeLetter}
 use Rattle.rules.specs.Scan.{isSmall, shapeLimits, upTo, outside}
-use Rattle.laws.proofs.Cases.{on}
+use Rattle.laws.proofs.Cases.{on, if-on}
 use Rattle.laws_scan.proofs.Walk.{cons-at}
 use Rattle.scan_command.specs.View.{drawOf, letterAt}
 use Rattle.scan_command.specs.declared.Command.{Command}
 use Rattle.scan_command.specs.declared.Command.the-variants as K
+use Rattle.scan_letters.specs.Selected.{drawingIn, drawingBy, drawingOf}
+use Rattle.scan_letters.specs.declared.Motion.{Motion}
+use Rattle.scan_letters.specs.declared.Motion.the-variants as M
+use Rattle.scan_letters.specs.declared.Drawing.{Drawing}
+use Rattle.scan_letters.specs.declared.Drawing.the-variants as W
 use Rattle.scan_lex.specs.At.{runEnd, breaksAt}
 use Rattle.scan_integer.specs.At.{cut}
 use Rattle.scan_arguments.specs.At.{oneAt, twoAt, fourAt, perhapsAt, polygonAt}
@@ -37,9 +44,8 @@ use Rattle.scan_lex.proofs.Runs.{unspaced-at}
 use Rattle.scan_arguments.proofs.Chains.{ints}
 use Rattle.scan_arguments.proofs.Nums.{OneNums, TwoNums, FourNums, PerhapsNums, PolygonNums, one-nums, two-nums, four-nums, perhaps-nums, polygon-nums}
 use Rattle.scan_close.specs.Closed.{endedAt}
-use Rattle.scan_shapes.specs.Parts.{downBy, movedAcross, twoBy, twoDrawn, arcBy, arcDrawn, dummyBy, dummyDrawn, roundBy, roundDrawn, oneArgument, thicknessSet, graySet, polygonBy, polygonDrawn}
+use Rattle.scan_shapes.specs.Parts.{movedBy, oneArgument, oneDrawn, dummyBy, dummyDrawn, dummiedBy, dummiedDrawn, twoBy, twoDrawn, fourBy, fourDrawn, polygonBy, polygonDrawn, graySet}
 use Rattle.scan_close.proofs.Places.{near-small}
-use Rattle.scan_close.proofs.Letters.{Unlike, if-alike}
 use Rattle.scan_colours.specs.Parts.{fillSet}
 use Rattle.scan_colours.proofs.Placed.{outsideOr, limited, placedOf}
 use Rattle.scan_colours.proofs.Limits.{judgedBy, judge-cut, outside-placed}
@@ -65,18 +71,18 @@ module _ (s : List ℕ) (at : ℕ) (sh : Shape) where
   judged lo hi h v ns ks e = judge-cut (limited (K.Refused 6) (v ns)) at (v (map cut ns)) lo hi h ns ks e (λ p. ap v p)
 
   -- two integers
-  two-are : (i : ℕ) → formOf sh ≡ exactly 2
-      → ((x y l : ℕ) → (shapeLimits sh (x ∷ y ∷ []) ≡ near x ∷ near y ∷ []) × (drawOf sh (x ∷ y ∷ []) l ≡ K.Draw (shapeLetter sh) x (downBy (shapeLetter sh) y) 1 l))
-      → twoDrawn (shapeLetter sh) s at i ≡ placedOf at (closed (drawn sh i (drop i s) (formOf sh)))
+  two-are : (w : Motion) (i : ℕ) → formOf sh ≡ exactly 2
+      → ((x y l : ℕ) → (shapeLimits sh (x ∷ y ∷ []) ≡ near x ∷ near y ∷ []) × (drawOf sh (x ∷ y ∷ []) l ≡ movedBy (shapeLetter sh) w x y l))
+      → twoDrawn (shapeLetter sh) w s at i ≡ placedOf at (closed (drawn sh i (drop i s) (formOf sh)))
   unfolding twoDrawn
-  two-are i e f = rw e (go (twoAt s i) (two-nums s i))
+  two-are w i e f = rw e (go (twoAt s i) (two-nums s i))
     where
-      go : (q : Two) → TwoNums s (ints s 2 i) q → twoBy (shapeLetter sh) s at q ≡ placedOf at (closed (withAll (draw sh) (ints s 2 i)))
+      go : (q : Two) → TwoNums s (ints s 2 i) q → twoBy (shapeLetter sh) w s at q ≡ placedOf at (closed (withAll (draw sh) (ints s 2 i)))
       go B.Short h = rw h
       go (B.Read x y k m l) h =
           let a : ℕ = moved (h .first) in
           let b : ℕ = moved (h .second) in
-          let v : List ℕ → Command = λ ns. K.Draw (shapeLetter sh) (getD ns 0 0) (downBy (shapeLetter sh) (getD ns 1 0)) 1 l in
+          let v : List ℕ → Command = λ ns. movedBy (shapeLetter sh) w (getD ns 0 0) (getD ns 1 0) l in
           rw (h .are, h .size1, h .size2, ended-by (a ∷ b ∷ []) [] (k ∷ m ∷ []) l, f a b l .0, f a b l .1)
           (ap (endedAt s at l) (judged 1 199999999 (omega arith) v (a ∷ b ∷ []) (k ∷ m ∷ []) refl))
 
@@ -94,23 +100,23 @@ module _ (s : List ℕ) (at : ℕ) (sh : Shape) where
           (ap (endedAt s at l) (judged lo hi u (λ ns. v (getD ns 0 0) l) (a ∷ []) (k ∷ []) refl))
 
   -- one integer, and perhaps one that is ignored
-  module _ (f : (x l : ℕ) → (shapeLimits sh (x ∷ []) ≡ near x ∷ []) × (drawOf sh (x ∷ []) l ≡ movedAcross (shapeLetter sh) x l)) where
+  module _ (w : Motion) (f : (x l : ℕ) → (shapeLimits sh (x ∷ []) ≡ near x ∷ []) × (drawOf sh (x ∷ []) l ≡ movedBy (shapeLetter sh) w x origin l)) where
     dummy-are : (a k l : ℕ) (q : Perhaps) → PerhapsNums s (perhapsInteger l (drop l s)) q
-        → dummyBy (shapeLetter sh) (cut a) k s at q ≡ placedOf at (closed (dummyBehind (draft (just (draw sh (a ∷ []))) [] (k ∷ []) 0 l (drop l s))))
+        → dummyBy (shapeLetter sh) w (cut a) k s at q ≡ placedOf at (closed (dummyBehind (draft (just (draw sh (a ∷ []))) [] (k ∷ []) 0 l (drop l s))))
     dummy-are a k l P.Short h = rw h
     dummy-are a k l (P.Absent n) h =
         rw (h, ended-by (a ∷ []) [] (k ∷ []) n, f a n .0, f a n .1)
-        (ap (endedAt s at n) (judged 1 199999999 (omega arith) (λ ns. movedAcross (shapeLetter sh) (getD ns 0 0) n) (a ∷ []) (k ∷ []) refl))
+        (ap (endedAt s at n) (judged 1 199999999 (omega arith) (λ ns. movedBy (shapeLetter sh) w (getD ns 0 0) origin n) (a ∷ []) (k ∷ []) refl))
     dummy-are a k l (P.Read x m n) h =
         let b : ℕ = moved (h .first) in
         rw (h .are, h .size1, ended-by (a ∷ []) (h .first ∷ []) (k ∷ m ∷ []) n, f a n .0, f a n .1, ← (near-small (h .first)))
-        (ap (endedAt s at n) (judged 1 199999999 (omega arith) (λ ns. movedAcross (shapeLetter sh) (getD ns 0 0) n) (a ∷ b ∷ []) (k ∷ m ∷ []) refl))
+        (ap (endedAt s at n) (judged 1 199999999 (omega arith) (λ ns. movedBy (shapeLetter sh) w (getD ns 0 0) origin n) (a ∷ b ∷ []) (k ∷ m ∷ []) refl))
 
-    round-are : (i : ℕ) → formOf sh ≡ dummied → roundDrawn (shapeLetter sh) s at i ≡ placedOf at (closed (drawn sh i (drop i s) (formOf sh)))
-    unfolding roundDrawn dummyDrawn
-    round-are i e = rw e (go (oneAt s i) (one-nums s i))
+    dummied-are : (i : ℕ) → formOf sh ≡ dummied → dummiedDrawn (shapeLetter sh) w s at i ≡ placedOf at (closed (drawn sh i (drop i s) (formOf sh)))
+    unfolding dummiedDrawn dummyDrawn
+    dummied-are i e = rw e (go (oneAt s i) (one-nums s i))
       where
-        go : (q : One) → OneNums s (ints s 1 i) q → roundBy (shapeLetter sh) s at q ≡ placedOf at (closed (dummyBehind (withAll (draw sh) (ints s 1 i))))
+        go : (q : One) → OneNums s (ints s 1 i) q → dummiedBy (shapeLetter sh) w s at q ≡ placedOf at (closed (dummyBehind (withAll (draw sh) (ints s 1 i))))
         go A.Short h = rw h
         go (A.Read x k l) h = rw (h .are, h .size1) (dummy-are (moved (h .first)) k l (perhapsAt s l) (perhaps-nums s l))
 
@@ -140,11 +146,11 @@ module _ (s : List ℕ) (at : ℕ) (sh : Shape) where
 
 module _ (s : List ℕ) (at i : ℕ) where
   -- four integers
-  arc-are : arcDrawn s at i ≡ placedOf at (closed (withAll (draw arc) (ints s 4 i)))
-  unfolding arcDrawn
-  arc-are = go (fourAt s i) (four-nums s i)
+  four-are : fourDrawn 97 s at i ≡ placedOf at (closed (withAll (draw arc) (ints s 4 i)))
+  unfolding fourDrawn
+  four-are = go (fourAt s i) (four-nums s i)
     where
-      go : (q : Four) → FourNums s (ints s 4 i) q → arcBy s at q ≡ placedOf at (closed (withAll (draw arc) (ints s 4 i)))
+      go : (q : Four) → FourNums s (ints s 4 i) q → fourBy 97 s at q ≡ placedOf at (closed (withAll (draw arc) (ints s 4 i)))
       go D.Short h = rw h
       go (D.Read x y z w k m n o l) h =
           let ns : List ℕ = moved (h .first) ∷ moved (h .second) ∷ moved (h .third) ∷ moved (h .fourth) ∷ [] in
@@ -153,48 +159,48 @@ module _ (s : List ℕ) (at i : ℕ) where
           rw (h .are, h .size1, h .size2, h .size3, h .size4, ended-by s at arc ns [] ks l, add-zero (moved (h .third)), add-zero (moved (h .fourth)))
           (ap (endedAt s at l) (judged s at arc 1 199999999 (omega arith) v ns ks refl))
 
-  thickness-is : thicknessSet s at i ≡ placedOf at (closed (withAll (draw thickness) (ints s 1 i)))
-  unfolding thicknessSet
-  thickness-is = one-are s at thickness i 1 199999999 (omega arith) (λ x l. K.Draw 116 0 0 0 l) (λ x l. (refl, refl))
+  -- the thickness
+  one-is : oneDrawn 116 M.Still s at i ≡ placedOf at (closed (withAll (draw thickness) (ints s 1 i)))
+  unfolding oneDrawn
+  one-is = one-are s at thickness i 1 199999999 (omega arith) (λ x l. movedBy 116 M.Still x origin l) (λ x l. (refl, refl))
 
   gray-is : graySet s at i ≡ placedOf at (closed (withAll (draw grayFill) (ints s 1 i)))
   unfolding graySet
   gray-is = one-are s at grayFill i (origin - 32767) (origin + 32767) (omega arith) (λ x l. K.Gray x l) (λ x l. (refl, refl))
 
--- ---- by the letter b, its arguments from j on
+-- ---- by what the letter b selects, its arguments from j on
 
-abbrev byShape : ℕ → List ℕ → ℕ → ℕ → Command
-byShape b s at j =
-    if is "l" b then twoDrawn 108 s at j else
-    if is "a" b then arcDrawn s at j else
-    if is "c" b then roundDrawn 99 s at j else
-    if is "C" b then roundDrawn 67 s at j else
-    if is "e" b then twoDrawn 101 s at j else
-    if is "E" b then twoDrawn 69 s at j else
-    if is "p" b then polygonDrawn 112 s at j else
-    if is "P" b then polygonDrawn 80 s at j else
-    if is "~" b then polygonDrawn 126 s at j else
-    if is "t" b then thicknessSet s at j else
-    if is "f" b then graySet s at j else
-    K.Refused 3 at
+abbrev pub byDrawing : ℕ → List ℕ → ℕ → ℕ → Drawing → Command
+byDrawing b s at j (W.One m) = oneDrawn b m s at j
+byDrawing b s at j (W.Dummied m) = dummiedDrawn b m s at j
+byDrawing b s at j (W.Two m) = twoDrawn b m s at j
+byDrawing b s at j W.Four = fourDrawn b s at j
+byDrawing b s at j W.Pairs = polygonDrawn b s at j
+byDrawing b s at j W.Gray = graySet s at j
+byDrawing b s at j W.Scheme = fillSet s at (runEnd isSpace s j)
+byDrawing b s at j W.Unknown = K.Refused 3 at
 
-abbrev pub byLetter : ℕ → List ℕ → ℕ → ℕ → Command
-byLetter b s at j = if is "F" b then fillSet s at (runEnd isSpace s j) else byShape b s at j
+module _ (b : ℕ) (s : List ℕ) (at j : ℕ) where
+  -- what is answered for a shape is what the definitions say of it
+  abbrev Said : Option Shape → Type 0
+  Said o = byDrawing b s at j (drawingBy o) ≡ placedOf at (closed (inShape j (drop j s) o))
 
-shapes-are : (b : ℕ) (s : List ℕ) (at j : ℕ) → byShape b s at j ≡ placedOf at (closed (inShape j (drop j s) (shapeOf b)))
-shapes-are b s at j =
-    let f : Option Shape → Command = λ o. placedOf at (closed (inShape j (drop j s) o)) in
-    if-alike f (is "l" b) _ _ (some line) _ (two-are s at line j refl (λ x y l. (refl, rw (add-zero x, add-zero y))))
-    (if-alike f (is "a" b) _ _ (some arc) _ (arc-are s at j)
-    (if-alike f (is "c" b) _ _ (some circle) _ (round-are s at circle (λ x l. (refl, rw (add-zero x))) j refl)
-    (if-alike f (is "C" b) _ _ (some solidCircle) _ (round-are s at solidCircle (λ x l. (refl, rw (add-zero x))) j refl)
-    (if-alike f (is "e" b) _ _ (some ellipse) _ (two-are s at ellipse j refl (λ x y l. (refl, rw (add-zero x))))
-    (if-alike f (is "E" b) _ _ (some solidEllipse) _ (two-are s at solidEllipse j refl (λ x y l. (refl, rw (add-zero x))))
-    (if-alike f (is "p" b) _ _ (some polygon) _ (polygon-are s at polygon j refl (λ ns l. (refl, refl)))
-    (if-alike f (is "P" b) _ _ (some solidPolygon) _ (polygon-are s at solidPolygon j refl (λ ns l. (refl, refl)))
-    (if-alike f (is "~" b) _ _ (some spline) _ (polygon-are s at spline j refl (λ ns l. (refl, refl)))
-    (if-alike f (is "t" b) _ _ (some thickness) _ (thickness-is s at j)
-    (if-alike f (is "f" b) _ _ (some grayFill) none (gray-is s at j) refl))))))))))
+  of-letter : (x : Shape) → byDrawing (shapeLetter x) s at j (drawingIn x) ≡ placedOf at (closed (drawn x j (drop j s) (formOf x))) → eqb b (shapeLetter x) ≡ true → Said (some x)
+  of-letter x p e = rw (eqb-true b (shapeLetter x) e) p
+
+  shapes-are : Said (shapeOf b)
+  shapes-are =
+      if-on Said (is "l" b) (some line) _ (of-letter line (two-are s at line M.Both j refl (λ x y l. (refl, rw (add-zero x, add-zero y))))) (λ e.
+      if-on Said (is "a" b) (some arc) _ (of-letter arc (four-are s at j)) (λ e.
+      if-on Said (is "c" b) (some circle) _ (of-letter circle (dummied-are s at circle M.Across (λ x l. (refl, rw (add-zero x))) j refl)) (λ e.
+      if-on Said (is "C" b) (some solidCircle) _ (of-letter solidCircle (dummied-are s at solidCircle M.Across (λ x l. (refl, rw (add-zero x))) j refl)) (λ e.
+      if-on Said (is "e" b) (some ellipse) _ (of-letter ellipse (two-are s at ellipse M.Across j refl (λ x y l. (refl, rw (add-zero x))))) (λ e.
+      if-on Said (is "E" b) (some solidEllipse) _ (of-letter solidEllipse (two-are s at solidEllipse M.Across j refl (λ x y l. (refl, rw (add-zero x))))) (λ e.
+      if-on Said (is "p" b) (some polygon) _ (of-letter polygon (polygon-are s at polygon j refl (λ ns l. (refl, refl)))) (λ e.
+      if-on Said (is "P" b) (some solidPolygon) _ (of-letter solidPolygon (polygon-are s at solidPolygon j refl (λ ns l. (refl, refl)))) (λ e.
+      if-on Said (is "~" b) (some spline) _ (of-letter spline (polygon-are s at spline j refl (λ ns l. (refl, refl)))) (λ e.
+      if-on Said (is "t" b) (some thickness) _ (of-letter thickness (one-is s at j)) (λ e.
+      if-on Said (is "f" b) (some grayFill) none (of-letter grayFill (gray-is s at j)) (λ e. refl)))))))))))
 
 module _ (s : List ℕ) (at i : ℕ) (p : i ≡ runEnd isSpace s (at + 1)) where
   pub letter-none : length s ≤ i → K.Refused 3 at ≡ letterAt 68 s at
@@ -206,22 +212,18 @@ module _ (s : List ℕ) (at i : ℕ) (p : i ≡ runEnd isSpace s (at + 1)) where
     unfolding runEnd
     filled = rw (unspaced-at s (i + 1)) (sym (fill-is s at (i + 1 + spacer (drop (i + 1) s))))
 
-    letter-drawn : (b : ℕ) → byLetter b s at (i + 1) ≡ placedOf at (closed (drawing i (b ∷ drop (i + 1) s)))
+    letter-drawn : (b : ℕ) → byDrawing b s at (i + 1) (drawingOf b) ≡ placedOf at (closed (drawing i (b ∷ drop (i + 1) s)))
     unfolding drawing
-    letter-drawn b = if-alike (λ (d : Draft). placedOf at (closed d)) (is "F" b) _ _ _ _ filled (shapes-are b s at (i + 1))
+    letter-drawn b = on (is "F" b) (λ e. rw e filled) (λ e. rw e (shapes-are b s at (i + 1)))
 
-    letter-is : byLetter (getD s i 0) s at (i + 1) ≡ letterAt 68 s at
+    letter-is : byDrawing (getD s i 0) s at (i + 1) (drawingOf (getD s i 0)) ≡ letterAt 68 s at
     letter-is = letter-drawn (getD s i 0) ∙ sym (drawing-placed s at i p ∙ ap (λ (r : List ℕ). placedOf at (closed (drawing i r))) (cons-at s i h))
 
-    pub by-letter : (k : ℕ) (r : Command) → getD s i 0 ≡ k → r ≡ byLetter k s at (i + 1) → r ≡ letterAt 68 s at
-    by-letter k r e f = f ∙ rw (← e) letter-is
+    module _ (q : Drawing) (g : q ≡ drawingOf (getD s i 0)) where
+      pub by-drawing : (d : Drawing) (r : Command) → q ≡ d → r ≡ byDrawing (getD s i 0) s at (i + 1) d → r ≡ letterAt 68 s at
+      by-drawing d r e f = f ∙ rw (sym e ∙ g) letter-is
 
-    pub fill-letter : (k : ℕ) (r : Command) → getD s i 0 ≡ 70 → k ≡ runEnd isSpace s (i + 1) → r ≡ fillSet s at k → r ≡ letterAt 68 s at
-    fill-letter k r e f g = by-letter 70 r e (rw (g, f))
+      pub fill-letter : (k : ℕ) (r : Command) → q ≡ W.Scheme → k ≡ runEnd isSpace s (i + 1) → r ≡ fillSet s at k → r ≡ letterAt 68 s at
+      fill-letter k r e f g = by-drawing W.Scheme r e (rw (g, f))
 
-    pub no-letter : Unlike (getD s i 0) (70 ∷ 102 ∷ 116 ∷ 126 ∷ 80 ∷ 112 ∷ 69 ∷ 101 ∷ 67 ∷ 99 ∷ 97 ∷ 108 ∷ []) → K.Refused 3 at ≡ letterAt 68 s at
-    no-letter n =
-        let b : ℕ = getD s i 0 in
-        rw (ne-eqb b 70 (n .1), ne-eqb b 108 (n .0 .0 .0 .0 .0 .0 .0 .0 .0 .0 .0 .1), ne-eqb b 97 (n .0 .0 .0 .0 .0 .0 .0 .0 .0 .0 .1), ne-eqb b 99 (n .0 .0 .0 .0 .0 .0 .0 .0 .0 .1), ne-eqb b 67 (n .0 .0 .0 .0 .0 .0 .0 .0 .1), ne-eqb b 101 (n .0 .0 .0 .0 .0 .0 .0 .1), ne-eqb b 69 (n .0 .0 .0 .0 .0 .0 .1), ne-eqb b 112 (n .0 .0 .0 .0 .0 .1), ne-eqb b 80 (n .0 .0 .0 .0 .1), ne-eqb b 126 (n .0 .0 .0 .1), ne-eqb b 116 (n .0 .0 .1), ne-eqb b 102 (n .0 .1)) at letter-is
-
-pub ruleset drawings = (letter-none, by-letter, fill-letter, no-letter, needs)
+pub ruleset drawings = (letter-none, by-drawing, fill-letter, needs)

@@ -1,5 +1,6 @@
-// Drawings: the command `D`, whose second letter says the shape (document 01, "Drawing").
+// Drawings: the command `D`, whose second letter selects its arguments, their limits and the motion (document 01, "Drawing").
 use scan_command::Command;
+use scan_letters::Drawing;
 ghost use mathlib.Core.Path.{_≡_};
 ghost use Prim.Native.Nat.{_<_};
 ghost use lib.ListN.{length};
@@ -19,20 +20,15 @@ pub fn drawing(s: &[u8], at: usize) -> Command
     }
     let next = i + 1;
     let letter = s[i];
-    match letter {
-        b'l' => scan_shapes::by_two(s, at, next, 108),
-        b'a' => scan_shapes::arc(s, at, next),
-        b'c' => scan_shapes::round(s, at, next, 99),
-        b'C' => scan_shapes::round(s, at, next, 67),
-        b'e' => scan_shapes::by_two(s, at, next, 101),
-        b'E' => scan_shapes::by_two(s, at, next, 69),
-        b'p' => scan_shapes::by_pairs(s, at, next, 112),
-        b'P' => scan_shapes::by_pairs(s, at, next, 80),
-        b'~' => scan_shapes::by_pairs(s, at, next, 126),
-        b't' => scan_shapes::thickness(s, at, next),
-        b'f' => scan_shapes::gray(s, at, next),
-        b'F' => scan_colours::fill(s, at, scan_lex::spacer_end(s, next)),
-        _ => Command::Refused {
+    match scan_letters::drawing_of(letter) {
+        Drawing::One(motion) => scan_shapes::by_one(s, at, next, letter, motion),
+        Drawing::Dummied(motion) => scan_shapes::dummied(s, at, next, letter, motion),
+        Drawing::Two(motion) => scan_shapes::by_two(s, at, next, letter, motion),
+        Drawing::Four => scan_shapes::by_four(s, at, next, letter),
+        Drawing::Pairs => scan_shapes::by_pairs(s, at, next, letter),
+        Drawing::Gray => scan_shapes::gray(s, at, next),
+        Drawing::Scheme => scan_colours::fill(s, at, scan_lex::spacer_end(s, next)),
+        Drawing::Unknown => Command::Refused {
             number: 3,
             place: at,
         },

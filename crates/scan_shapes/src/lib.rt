@@ -1,15 +1,16 @@
-// The shapes of a drawing: the arguments of the command `D` by their form, but those of a colour (document 01, "Drawing"). Each function
-// has the command's place and the place where its arguments are due. A number that may be negative is handed on as itself + 100,000,000.
-// Refusals at one command are found in the order 4, 5, 6.
+// The shapes of a drawing: the arguments of the command `D` by their number, but those of a colour (document 01, "Drawing"). Each function
+// has the command's place, the place where its arguments are due, its letter, and the motion that the letter selects. A number that may
+// be negative is handed on as itself + 100,000,000. Refusals at one command are found in the order 4, 5, 6.
 use scan_arguments::Four;
 use scan_arguments::One;
 use scan_arguments::Perhaps;
 use scan_arguments::Polygon;
 use scan_arguments::Two;
 use scan_command::Command;
+use scan_letters::Motion;
 ghost use mathlib.Core.Path.{_≡_};
 ghost use Rattle.rules.specs.Scan.{isGray};
-ghost use Rattle.scan_shapes.specs.Parts.{downBy, movedAcross, twoDrawn, arcDrawn, dummyDrawn, roundDrawn, thicknessSet, graySet, polygonDrawn};
+ghost use Rattle.scan_shapes.specs.Parts.{movedBy, oneDrawn, dummyDrawn, dummiedDrawn, twoDrawn, fourDrawn, polygonDrawn, graySet};
 
 fn is_gray(n: u32) -> bool
     ensures { λ r. ⌜ r ≡ isGray n ⌝ }
@@ -17,16 +18,59 @@ fn is_gray(n: u32) -> bool
     (99_967_233 <= n) & (n <= 100_032_767)
 }
 
-// `Dl` moves down by its second number, `De` and `DE` do not.
-fn down_by(letter: u32, n: u32) -> u32
-    ensures { λ r. ⌜ r ≡ downBy letter n ⌝ }
+// A drawing that has the numbers h and v, and how it moves.
+fn moving(letter: u8, motion: Motion, h: u32, v: u32, next: usize) -> Command
+    ensures { λ r. ⌜ r ≡ movedBy letter motion h v next ⌝ }
 {
-    if letter == 108 { n } else { 100_000_000 }
+    match motion {
+        Motion::Both => Command::Draw {
+            letter: letter as u32,
+            dh: h as u64,
+            dv: v as u64,
+            terms: 1,
+            next,
+        },
+        Motion::Across => Command::Draw {
+            letter: letter as u32,
+            dh: h as u64,
+            dv: 100_000_000,
+            terms: 1,
+            next,
+        },
+        Motion::Still => Command::Draw {
+            letter: letter as u32,
+            dh: 0,
+            dv: 0,
+            terms: 0,
+            next,
+        },
+    }
 }
 
-// `Dl`, `De`, `DE` at a place, the arguments from i on.
-pub fn by_two(s: &[u8], at: usize, i: usize, letter: u32) -> Command
-    ensures { λ r. ⌜ r ≡ twoDrawn letter (now (s .entry)) at i ⌝ }
+// n
+pub fn by_one(s: &[u8], at: usize, i: usize, letter: u8, motion: Motion) -> Command
+    ensures { λ r. ⌜ r ≡ oneDrawn letter motion (now (s .entry)) at i ⌝ }
+{
+    match scan_arguments::one_at(s, i) {
+        One::Short => Command::Refused {
+            number: 4,
+            place: at,
+        },
+        One::Read { a, pa, next } => {
+            let c = moving(letter, motion, a, 100_000_000, next);
+            scan_close::ending(
+                s,
+                at,
+                next,
+                scan_close::within(scan_integer::is_near(a), pa, c),
+            )
+        }
+    }
+}
+
+// h v
+pub fn by_two(s: &[u8], at: usize, i: usize, letter: u8, motion: Motion) -> Command
+    ensures { λ r. ⌜ r ≡ twoDrawn letter motion (now (s .entry)) at i ⌝ }
 {
     match scan_arguments::two_at(s, i) {
         Two::Short => Command::Refused {
@@ -34,13 +78,7 @@ pub fn by_two(s: &[u8], at: usize, i: usize, letter: u32) -> Command
             place: at,
         },
         Two::Read { a, b, pa, pb, next } => {
-            let c = Command::Draw {
-                letter,
-                dh: a as u64,
-                dv: down_by(letter, b) as u64,
-                terms: 1,
-                next,
-            };
+            let c = moving(letter, motion, a, b, next);
             let judged = scan_close::within(
                 scan_integer::is_near(a),
                 pa,
@@ -51,9 +89,9 @@ pub fn by_two(s: &[u8], at: usize, i: usize, letter: u32) -> Command
     }
 }
 
-// `Da`
-pub fn arc(s: &[u8], at: usize, i: usize) -> Command
-    ensures { λ r. ⌜ r ≡ arcDrawn (now (s .entry)) at i ⌝ }
+// h1 v1 h2 v2: it moves by both pairs.
+pub fn by_four(s: &[u8], at: usize, i: usize, letter: u8) -> Command
+    ensures { λ r. ⌜ r ≡ fourDrawn letter (now (s .entry)) at i ⌝ }
 {
     match scan_arguments::four_at(s, i) {
         Four::Short => Command::Refused {
@@ -72,7 +110,7 @@ pub fn arc(s: &[u8], at: usize, i: usize) -> Command
             next,
         } => {
             let all = Command::Draw {
-                letter: 97,
+                letter: letter as u32,
                 dh: a as u64 + c as u64,
                 dv: b as u64 + d as u64,
                 terms: 2,
@@ -93,22 +131,17 @@ pub fn arc(s: &[u8], at: usize, i: usize) -> Command
     }
 }
 
-// A drawing that moves across by n.
-fn across(letter: u32, n: u32, next: usize) -> Command
-    ensures { λ r. ⌜ r ≡ movedAcross letter n next ⌝ }
-{
-    Command::Draw {
-        letter,
-        dh: n as u64,
-        dv: 100_000_000,
-        terms: 1,
-        next,
-    }
-}
-
-// `Dc`, `DC` with their number, which begins at pa: perhaps a dummy stands at i.
-fn with_dummy(s: &[u8], at: usize, i: usize, letter: u32, a: u32, pa: usize) -> Command
-    ensures { λ r. ⌜ r ≡ dummyDrawn letter a pa (now (s .entry)) at i ⌝ }
+// d is read and begins at pa: perhaps a dummy stands at i.
+fn with_dummy(
+    s: &[u8],
+    at: usize,
+    i: usize,
+    letter: u8,
+    motion: Motion,
+    d: u32,
+    pd: usize,
+) -> Command
+    ensures { λ r. ⌜ r ≡ dummyDrawn letter motion d pd (now (s .entry)) at i ⌝ }
 {
     match scan_arguments::perhaps_at(s, i) {
         Perhaps::Short => Command::Refused {
@@ -116,67 +149,41 @@ fn with_dummy(s: &[u8], at: usize, i: usize, letter: u32, a: u32, pa: usize) -> 
             place: at,
         },
         Perhaps::Absent { next } => {
-            let c = across(letter, a, next);
+            let c = moving(letter, motion, d, 100_000_000, next);
             scan_close::ending(
                 s,
                 at,
                 next,
-                scan_close::within(scan_integer::is_near(a), pa, c),
+                scan_close::within(scan_integer::is_near(d), pd, c),
             )
         }
-        Perhaps::Read { a: d, pa: pd, next } => {
-            let c = scan_close::within(scan_integer::is_near(d), pd, across(letter, a, next));
+        Perhaps::Read { a, pa, next } => {
+            let c = moving(letter, motion, d, 100_000_000, next);
+            let dummy = scan_close::within(scan_integer::is_near(a), pa, c);
             scan_close::ending(
                 s,
                 at,
                 next,
-                scan_close::within(scan_integer::is_near(a), pa, c),
+                scan_close::within(scan_integer::is_near(d), pd, dummy),
             )
         }
     }
 }
 
-// `Dc`, `DC`
-pub fn round(s: &[u8], at: usize, i: usize, letter: u32) -> Command
-    ensures { λ r. ⌜ r ≡ roundDrawn letter (now (s .entry)) at i ⌝ }
+// d, optional dummy
+pub fn dummied(s: &[u8], at: usize, i: usize, letter: u8, motion: Motion) -> Command
+    ensures { λ r. ⌜ r ≡ dummiedDrawn letter motion (now (s .entry)) at i ⌝ }
 {
     match scan_arguments::one_at(s, i) {
         One::Short => Command::Refused {
             number: 4,
             place: at,
         },
-        One::Read { a, pa, next } => with_dummy(s, at, next, letter, a, pa),
+        One::Read { a, pa, next } => with_dummy(s, at, next, letter, motion, a, pa),
     }
 }
 
-// `Dt`
-pub fn thickness(s: &[u8], at: usize, i: usize) -> Command
-    ensures { λ r. ⌜ r ≡ thicknessSet (now (s .entry)) at i ⌝ }
-{
-    match scan_arguments::one_at(s, i) {
-        One::Short => Command::Refused {
-            number: 4,
-            place: at,
-        },
-        One::Read { a, pa, next } => {
-            let c = Command::Draw {
-                letter: 116,
-                dh: 0,
-                dv: 0,
-                terms: 0,
-                next,
-            };
-            scan_close::ending(
-                s,
-                at,
-                next,
-                scan_close::within(scan_integer::is_near(a), pa, c),
-            )
-        }
-    }
-}
-
-// `Df`
+// n, -32767..32767
 pub fn gray(s: &[u8], at: usize, i: usize) -> Command
     ensures { λ r. ⌜ r ≡ graySet (now (s .entry)) at i ⌝ }
 {
@@ -192,8 +199,8 @@ pub fn gray(s: &[u8], at: usize, i: usize) -> Command
     }
 }
 
-// `Dp`, `DP`, `D~`
-pub fn by_pairs(s: &[u8], at: usize, i: usize, letter: u32) -> Command
+// An even number of integers: it moves by all its pairs.
+pub fn by_pairs(s: &[u8], at: usize, i: usize, letter: u8) -> Command
     ensures { λ r. ⌜ r ≡ polygonDrawn letter (now (s .entry)) at i ⌝ }
 {
     match scan_arguments::polygon_at(s, i) {
@@ -212,7 +219,7 @@ pub fn by_pairs(s: &[u8], at: usize, i: usize, letter: u32) -> Command
             next,
         } => {
             let c = Command::Draw {
-                letter,
+                letter: letter as u32,
                 dh,
                 dv,
                 terms,

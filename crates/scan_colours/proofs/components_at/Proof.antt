@@ -6,4 +6,4 @@ pub components-at-spec : {M : Type 1} → statement M
 components-at-spec =
     tie.close
     (tie.spec
-    (λ c. search colours) (λ c. search colours) (λ c. search colours) (λ c κs. search colours) (λ c κs. search colours) (λ c κs. search colours) (λ c κs. search colours) (λ c. search colours) (λ c. search colours) (λ c. search colours) (λ c. search colours) (λ c. search colours) (λ c. search colours))
+    (λ c. search colours) (λ c. search colours) (λ c. search colours) (λ c κs. search colours) (λ c. search colours) (λ c κs. search colours) (λ c. search colours) (λ c κs. search colours) (λ c. search colours) (λ c κs. search colours) (λ c. search colours) (λ c κs. search colours) (λ c. search colours) (λ c. search colours) (λ c. search colours) (λ c. search colours) (λ c. search colours) (λ c. search colours))

@@ -6,4 +6,4 @@ pub drawing-spec : {M : Type 1} → statement M
 drawing-spec =
     tie.close
     (tie.spec
-    (λ c. search drawings) (λ c κs. search drawings) (λ c. search drawings) (λ c. search drawings) (λ c. search drawings) (λ c κs. search drawings) (λ c κs. search drawings) (λ c κs. search drawings) (λ c κs. search drawings) (λ c κs. search drawings) (λ c κs. search drawings) (λ c κs. search drawings) (λ c κs. search drawings) (λ c κs. search drawings) (λ c κs. search drawings) (λ c κs. search drawings) (λ c κs. search drawings) (λ c κs. search drawings) (λ c. search drawings) (λ c. search drawings) (λ c. search drawings) (λ c. search drawings) (λ c. search drawings) (λ c. search drawings) (λ c. search drawings) (λ c. search drawings) (λ c. search drawings) (λ c. search drawings) (λ c. search drawings) (λ c. search drawings) (λ c. search drawings))
+    (λ c. search drawings) (λ c κs. search drawings) (λ c. search drawings) (λ c. search drawings) (λ c. search drawings) (λ c κs. search drawings) (λ c. search drawings) (λ c κs. search drawings) (λ c. search drawings) (λ c κs. search drawings) (λ c. search drawings) (λ c κs. search drawings) (λ c. search drawings) (λ c κs. search drawings) (λ c. search drawings) (λ c κs. search drawings) (λ c. search drawings) (λ c κs. search drawings) (λ c. search drawings) (λ c κs. search drawings) (λ c κs. search drawings) (λ c. search drawings) (λ c. search drawings) (λ c. search drawings) (λ c. search drawings) (λ c. search drawings) (λ c. search drawings) (λ c. search drawings) (λ c. search drawings) (λ c. search drawings))

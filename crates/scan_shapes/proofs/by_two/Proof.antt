@@ -6,4 +6,4 @@ pub by-two-spec : {M : Type 1} → statement M
 by-two-spec =
     tie.close
     (tie.spec
-    (λ c κs. search shapes) (λ c. search shapes) (λ c. search shapes) (λ c. search shapes) (λ c κs. search shapes) (λ c. search shapes) (λ c κs. search shapes) (λ c κs. search shapes) (λ c κs. search shapes) (λ c κs. search shapes) (λ c κs. search shapes) (λ c. search shapes) (λ c. search shapes))
+    (λ c κs. search shapes) (λ c. search shapes) (λ c. search shapes) (λ c κs. search shapes) (λ c κs. search shapes) (λ c κs. search shapes) (λ c κs. search shapes) (λ c κs. search shapes) (λ c κs. search shapes) (λ c. search shapes) (λ c. search shapes))
