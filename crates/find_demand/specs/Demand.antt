@@ -15,7 +15,7 @@ use Rattle.laws_read.specs.Outline.{outline}
 use Rattle.laws_find.specs.Occurs.{OccursAt, Elem, Rising}
 use Rattle.laws_find.specs.Written.{written, GoodQuery}
 use Rattle.demands.specs.Statements.{Accepted, rowsIn, cmdsOf, Alike}
-use Rattle.find_match.specs.Parts.{partIn}
+use Rattle.name.specs.Part.{partOf}
 use Rattle.find_match.specs.Match.{keyIn, recordKey}
 use Rattle.find_search.specs.Search.{blank}
 
@@ -108,7 +108,7 @@ LikenessFound = (s list s₂ list₂ q : List ℕ) (rs rs₂ : List Record) (hs 
 
 -- the same where both were answered, of the records that the rows hold, whatever the rows' lengths: the first n are alike
 pub record AlikeRows (s s₂ : List ℕ) (n : ℕ) (rs rs₂ : List Record) : Type 0 where
-  pub name : (i : ℕ) → i < n → partIn s (getD rs i blank .place) (getD rs i blank .len) ≡ partIn s₂ (getD rs₂ i blank .place) (getD rs₂ i blank .len)
+  pub name : (i : ℕ) → i < n → partOf s (getD rs i blank .place) (getD rs i blank .len) ≡ partOf s₂ (getD rs₂ i blank .place) (getD rs₂ i blank .len)
   pub gap : (i : ℕ) → i < n → getD rs i blank .gap ≡ getD rs₂ i blank .gap
   pub ordinal : (i : ℕ) → i < n → getD rs i blank .ordinal ≡ getD rs₂ i blank .ordinal
 

@@ -1,12 +1,12 @@
--- One byte and one part of the stream, written: in the form in which `search` applies it at a need.
-use Prim.Native.Nat.{ℕ, zero, suc, _+_, _-_, _^_, _≤_, _<_}
+-- One byte and a text, written: in the form in which `search` applies it at a need.
+use Prim.Native.Nat.{ℕ, _+_, _^_, _≤_, _<_}
 use native.Mathlib.Omega.{arith}
 use mathlib.Core.List.{List}
 use mathlib.Core.Path.{_≡_, refl, sym, ap, _∙_}
 use borrow.Author.Needs.{needs}
 use borrow.Author.Tests.{lt-ltb, le-ltb}
-use lib.ListN.{length, take, drop, set, getD, length-set, drop-of-length-le}
-use lib.Seq.{set-out, take-nil}
+use lib.ListN.{length, drop, set, getD, length-set, drop-of-length-le}
+use lib.Seq.{set-out}
 use mir.Syntax.{w64}
 use mir.Val.{Fits}
 use Rattle.laws_scan.proofs.Walk.{cons-at}
@@ -36,42 +36,29 @@ put-kept o q at b r e = ap (λ (p : Sheet). length (p .bytes)) e ∙ length-set 
 pub all-kept : (t o q : List ℕ) (at r : ℕ) → sheet q r ≡ putAll t (sheet o at) → length q ≡ length o
 all-kept t o q at r e = ap (λ (p : Sheet). length (p .bytes)) e ∙ put-length t (sheet o at)
 
--- k bytes of s from i on are still to be written at a
-pub record Part (s : List ℕ) (place len : ℕ) (o₀ : List ℕ) (at : ℕ) (o : List ℕ) (a i k : ℕ) : Type 0 where
-  pub whole : putAll (take len (drop place s)) (sheet o₀ at) ≡ putAll (take k (drop i s)) (sheet o a)
+-- the bytes of s from i on are still to be written at a
+pub record Text (s o₀ : List ℕ) (at : ℕ) (o : List ℕ) (a i : ℕ) : Type 0 where
+  pub whole : putAll s (sheet o₀ at) ≡ putAll (drop i s) (sheet o a)
   pub size : length o ≡ length o₀
 
-pub part-start : (s : List ℕ) (place len : ℕ) (o : List ℕ) (at : ℕ) → Part s place len o at o at place len
-part-start s place len o at = record { whole = refl; size = refl }
+pub text-start : (s o : List ℕ) (at : ℕ) → Text s o at o at 0
+text-start s o at = record { whole = refl; size = refl }
 
-module _ (s : List ℕ) (place len : ℕ) (o₀ : List ℕ) (at : ℕ) (o : List ℕ) (a i k : ℕ) (v : Part s place len o₀ at o a i k) where
-  pub part-size : length o ≡ length o₀
-  part-size = v .size
+module _ (s o₀ : List ℕ) (at : ℕ) (o : List ℕ) (a i : ℕ) (v : Text s o₀ at o a i) where
+  pub text-size : length o ≡ length o₀
+  text-size = v .size
 
-  pub part-more : (q : List ℕ) (r : ℕ) → 0 < k → i < length s → sheet q r ≡ put (getD s i 0) (sheet o a) → Part s place len o₀ at q r (i + 1) (k - 1)
-  part-more q r h l e = record {
-    whole = v .whole ∙ go k h;
+  pub text-more : (q : List ℕ) (r : ℕ) → i < length s → sheet q r ≡ put (getD s i 0) (sheet o a) → Text s o₀ at q r (i + 1)
+  text-more q r l e = record {
+    whole = v .whole ∙ rw (cons-at s i l, putAll-cons (getD s i 0) (drop (i + 1) s) (sheet o a), e);
     size = put-kept o q a (getD s i 0) r e ∙ v .size;
   }
-    where
-      go : (k : ℕ) → 0 < k → putAll (take k (drop i s)) (sheet o a) ≡ putAll (take (k - 1) (drop (i + 1) s)) (sheet q r)
-      go zero h = absurd (omega arith)
-      go (suc k) h =
-          let f : suc k - 1 ≡ k = omega arith in
-          rw (cons-at s i l, putAll-cons (getD s i 0) (take k (drop (i + 1) s)) (sheet o a), f, e)
 
-  pub part-over : k ≤ 0 → sheet o a ≡ putAll (take len (drop place s)) (sheet o₀ at)
-  part-over h = sym (v .whole ∙ go k h)
-    where
-      go : (k : ℕ) → k ≤ 0 → putAll (take k (drop i s)) (sheet o a) ≡ sheet o a
-      go zero h = putAll-none (sheet o a)
-      go (suc k) h = absurd (omega arith)
-
-  pub part-end : length s ≤ i → sheet o a ≡ putAll (take len (drop place s)) (sheet o₀ at)
-  part-end h = sym (v .whole ∙ rw (drop-of-length-le s h, take-nil {A = ℕ} k) (putAll-none (sheet o a)))
+  pub text-end : length s ≤ i → sheet o a ≡ putAll s (sheet o₀ at)
+  text-end h = sym (v .whole ∙ rw (drop-of-length-le s h) (putAll-none (sheet o a)))
 
 -- a place within is not the last number
 pub next-fits : (s : List ℕ) (i : ℕ) → i < length s → length s < 2 ^ 64 → Fits w64 (i + 1)
 next-fits s i h l = omega arith
 
-pub ruleset putting = (next-fits, further-on, further-stays, put-in, put-out, put-kept, all-kept, part-start, part-size, part-more, part-over, part-end, needs)
+pub ruleset putting = (next-fits, further-on, further-stays, put-in, put-out, put-kept, all-kept, text-start, text-size, text-more, text-end, needs)
