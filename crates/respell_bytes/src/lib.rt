@@ -4,6 +4,7 @@ ghost use mathlib.Core.Path.{_≡_};
 ghost use Prim.Native.Nat.{_<_};
 ghost use Rattle.rules.specs.House.{decimal};
 ghost use Rattle.respell_model.specs.Sheet.{further, put, putAll, small, signedSmall};
+ghost use Rattle.respell_bytes.specs.Onward.{onward};
 
 fn further(at: usize) -> usize
     ensures { λ r. ⌜ r ≡ further at ⌝ }
@@ -22,10 +23,28 @@ pub fn put(out: &mut [u8], at: usize, b: u8) -> usize
     }
 }
 
-// A text, such as a name that stands in the stream.
+// The place behind n bytes that are not written.
+fn onward(at: usize, n: usize) -> usize
+    ensures { λ r. ⌜ r ≡ onward n at ⌝ }
+{
+    if at < 16_777_217 {
+        if n < 16_777_217 - at {
+            at + n
+        } else {
+            16_777_217
+        }
+    } else {
+        at
+    }
+}
+
+// A text, such as a name that stands in the stream. Behind the buffer its length is all that counts.
 pub fn put_all(out: &mut [u8], at: usize, text: &[u8]) -> usize
     ensures { λ r. ⌜ record { bytes = now (out .exit); at = r } ≡ putAll (now (text .entry)) (record { bytes = now (out .entry); at = at }) ⌝ }
 {
+    if out.len() <= at {
+        return onward(at, text.len());
+    }
     let mut a = at;
     let mut i = 0;
     while i < text.len() {

@@ -10,6 +10,12 @@ Inv-loop out₀ at text a₀ i₀ out a i = Text text out₀ at out a i
 abbrev μ-loop : tie.MeasureT-loop
 μ-loop out₀ at text a₀ i₀ out a i = length text - i
 
+onward-requires : tie.Need-onward-requires Inv-loop μ-loop
+onward-requires c κs = search putting
+
+returns : tie.Need-returns Inv-loop μ-loop
+returns c = search putting
+
 loop-holds : tie.Need-loop-holds Inv-loop μ-loop
 loop-holds c = search putting
 
@@ -31,8 +37,8 @@ loop-again c = search putting
 same-length : tie.Need-same-length Inv-loop μ-loop
 same-length c = search putting
 
-returns : tie.Need-returns Inv-loop μ-loop
-returns c = search putting
+returns-2 : tie.Need-returns-2 Inv-loop μ-loop
+returns-2 c = search putting
 
 pub put-all-spec : {M : Type 1} → statement M
 put-all-spec =
@@ -40,6 +46,8 @@ put-all-spec =
     (tie.spec
     Inv-loop
     μ-loop
+    onward-requires
+    returns
     loop-holds
     shared-slice-read-put
     put-requires
@@ -47,4 +55,4 @@ put-all-spec =
     loop-less
     loop-again
     same-length
-    returns)
+    returns-2)
