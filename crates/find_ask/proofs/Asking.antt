@@ -10,7 +10,7 @@ use lib.Dec.{ltb}
 use lib.ListN.{length, getD, set, length-set}
 use lib.Seq.{getD-set-same, getD-set-other}
 use borrow.Author.Needs.{needs}
-use borrow.Author.Tests.{lt-ltb, le-ltb, ltb-true, le-leb}
+use borrow.Author.Tests.{lt-ltb, le-ltb, ltb-true}
 use Rattle.rules.specs.Bytes.{bytes, same}
 use Rattle.rules.specs.Widths.{Line, linesFrom, behind, isString}
 use Rattle.rules.specs.Find.{Gap, anyGap, noGap, someGap, Wanted, Expected, firstGlyph, gapGlyph, either, Query, illFormed, wellFormed, queryEnds, withWanted, gapOf, mayPart, mayAsk, queryLine, queryLines, query}
@@ -19,8 +19,8 @@ use Rattle.laws_find.specs.Occurs.{wantedAt}
 use Rattle.laws_find.proofs.Asked.{query-shape, shape-some}
 use Rattle.query.specs.declared.QueryAnswer.{QueryAnswer}
 use Rattle.query.specs.declared.QueryAnswer.the-variants as Q
-use Rattle.find_match.specs.Parts.{partIn}
-use Rattle.query.specs.Asked.{queryOf, gapNumber, partOf, LinesIn, LinesOf}
+use Rattle.name.specs.Part.{partOf}
+use Rattle.query.specs.Asked.{queryOf, gapNumber, LinesIn, LinesOf}
 use Rattle.find_match.specs.Match.{gapAt, wantedIn}
 use Rattle.find_ask.specs.declared.Asked.{Asked}
 use Rattle.find_ask.specs.Ask.{rowAt, RowGathered, RowHolds, askedAt, AsksWith, AsksFor}
@@ -107,10 +107,6 @@ gap-back anyGap = refl
 gap-back noGap = refl
 gap-back someGap = refl
 
-pub part-in : (q : List ℕ) (place len : ℕ) → place + len ≤ length q → partIn q place len ≡ partOf q place len
-unfolding partIn
-part-in q place len h = rw (le-leb (place + len) (length q) h)
-
 module _ (q : List ℕ) (qs : List Wanted) (asked : query q ≡ wellFormed qs) (places lens gaps : List ℕ) (lines : LinesIn q qs places lens gaps) (rows : List ℕ) (g : RowGathered places lens gaps (length qs) rows) where
   few : length qs ≤ 64
   few = query-few q qs asked
@@ -129,8 +125,8 @@ module _ (q : List ℕ) (qs : List Wanted) (asked : query q ≡ wellFormed qs) (
         g .each (128 + j) (omega (arith, few))
         ∙ sym (at-gaps places lens gaps (length qs) (128 + j) (getD gaps j 0) (omega arith) (omega arith) (omega (arith, few)) (ap (λ (k : ℕ). getD gaps k 0) (omega arith)))
 
-    name-held : partIn q (getD rows j 0) (getD rows (64 + j) 0) ≡ wantedAt qs j .name
-    name-held = rw (place-is, len-is) (part-in q (getD places j 0) (getD lens j 0) (lines .inside j h) ∙ lines .name j h)
+    name-held : partOf q (getD rows j 0) (getD rows (64 + j) 0) ≡ wantedAt qs j .name
+    name-held = rw (place-is, len-is) (lines .name j h)
 
     gap-held : gapAt (getD rows (128 + j) 0) ≡ wantedAt qs j .gap
     gap-held = ap gapAt (gap-is ∙ lines .gap j h) ∙ gap-back (wantedAt qs j .gap)

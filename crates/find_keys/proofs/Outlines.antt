@@ -7,7 +7,7 @@ use mathlib.Core.Path.{_≡_, refl, sym, ap, subst, _∙_}
 use lib.Dec.{ltb}
 use lib.ListN.{length, take, drop, getD}
 use lib.Seq.{drop-drop}
-use borrow.Author.Tests.{lt-ltb, le-ltb, ltb-true, ltb-false, le-leb}
+use borrow.Author.Tests.{lt-ltb, le-ltb, ltb-true, ltb-false}
 use Rattle.rules.specs.Bytes.{if_then_else_, origin, is, isWhite, oneLine}
 use Rattle.rules.specs.Act.{glyph, index, to, by, page, font, size, colour, break, space, draw, device, resolution, init, file, mount, plain, raw, stop, line, arc, circle, solidCircle, ellipse, solidEllipse, polygon, solidPolygon, spline, thickness, grayFill, colourFill, Cmd, just, word, pair}
 use Rattle.rules.specs.Scan.{Scan, got, bad, command, Cmds, commands, bare}
@@ -16,10 +16,10 @@ use Rattle.laws.proofs.Cases.{on}
 use Rattle.laws.proofs.Good.{GoodCmd}
 use Rattle.laws_scan.proofs.Fair.{command-good}
 use Rattle.laws_scan.proofs.Bounds.{textOf, GotIn, command-in}
-use Rattle.laws_scan.proofs.Walk.{from, cons-at, got-in, from-end, from-white, from-comment, from-bad, from-got}
+use Rattle.laws_scan.proofs.Walk.{from, cons-at, from-end, from-white, from-comment, from-bad, from-got}
 use Rattle.laws_read.specs.Outline.{Sign, namedSign, gapSign, byteSign, signsOf, outline, keysFrom}
 use Rattle.scan_command.specs.View.{cmdOf, commandOf, commandAt}
-use Rattle.find_match.specs.Parts.{partIn}
+use Rattle.name.specs.Part.{partOf}
 use Rattle.find_match.specs.declared.Key.{Key}
 use Rattle.find_match.specs.Match.{keyIn}
 use Rattle.find_outline.specs.declared.Outline.{Outline}
@@ -27,18 +27,6 @@ use Rattle.find_outline.specs.declared.Moved.{Moved}
 use Rattle.find_outline.specs.Move.{passing, standing, naming, wordMove, commandMove, moveOf}
 use Rattle.find_keys.specs.Keys.{keysOn, keysFor, movesLeft, keysAt, Fair}
 use Rattle.find_keys.proofs.Keys.{Onward, move-on, keys-end, keys-move}
-
--- a name that stands in the stream
-part-is : (s : List ℕ) (p : ℕ) (n : List ℕ) → p + length n ≤ length s → take (length n) (drop p s) ≡ n → partIn s p (length n) ≡ n
-unfolding partIn
-part-is s p n h e = rw (le-leb (p + length n) (length s) h, e)
-
-part-none : (s : List ℕ) → partIn s 0 0 ≡ []
-unfolding partIn
-part-none s = rw (le-leb 0 (length s) (omega arith))
-
-take-one : (s : List ℕ) (i : ℕ) → i < length s → take 1 (drop i s) ≡ getD s i 0 ∷ []
-take-one s i h = rw (cons-at s i h)
 
 module _ (s : List ℕ) where
   -- the outline from a place on
@@ -72,8 +60,8 @@ module _ (s : List ℕ) where
 
     -- and with one
     named : (place len : ℕ) (p : Outline) → Onward s o p
-        → record { name = partIn s place len; gap = o .gap; ordinal = o .ordinal } ∷ keysFrom (p .ordinal) (p .gap) (marksAt p) ≡ keysFrom (o .ordinal) (o .gap) (marksAt o) → Told (naming o place len p)
-    named place len p n e = ap (λ (r : List RulesKey). record { name = partIn s place len; gap = o .gap; ordinal = o .ordinal } ∷ r) (more p (n .fair) (omega (arith, n .less))) ∙ e
+        → record { name = partOf s place len; gap = o .gap; ordinal = o .ordinal } ∷ keysFrom (p .ordinal) (p .gap) (marksAt p) ≡ keysFrom (o .ordinal) (o .gap) (marksAt o) → Told (naming o place len p)
+    named place len p n e = ap (λ (r : List RulesKey). record { name = partOf s place len; gap = o .gap; ordinal = o .ordinal } ∷ r) (more p (n .fair) (omega (arith, n .less))) ∙ e
 
     -- in a word
     word-told : o .at < o .end → Onward s o (wordMove o .on) → Told (wordMove o)
@@ -81,7 +69,7 @@ module _ (s : List ℕ) where
     word-told w n =
         let e : o .end - o .at ≡ suc (o .end - (o .at + 1)) = omega arith in
         named (o .at) 1 (wordMove o .on) n
-        (rw (lt-ltb (o .at) (o .end) w, e, cons-at s (o .at) h, part-is s (o .at) (getD s (o .at) 0 ∷ []) (omega arith) (take-one s (o .at) h))
+        (rw (lt-ltb (o .at) (o .end) w, e, cons-at s (o .at) h)
         (ap (λ (r : List RulesKey). record { name = getD s (o .at) 0 ∷ []; gap = o .gap; ordinal = o .ordinal } ∷ r) rest))
       where
         rest : keysFrom (wordMove o .on .ordinal) (wordMove o .on .gap) (marksAt (wordMove o .on)) ≡ keysFrom (o .ordinal) 0 (map byteSign (take (o .end - (o .at + 1)) (drop (o .at + 1) s)) ++ restAt (o .next))
@@ -111,12 +99,6 @@ module _ (s : List ℕ) where
           stands : take (length (textOf c)) (drop (o .at + a) s) ≡ textOf c
           stands = rw (← drop-drop a (o .at) s, cons-at s (o .at) h) (inside .stands)
 
-          reaches : (1 ≤ j) × (o .at + j ≤ length s) × (a ≤ j)
-          reaches = got-in s (o .at) h c a j q
-
-          text-in : o .at + a + length (textOf c) ≤ length s
-          text-in = omega (arith, inside .name, reaches)
-
           rest-is : restAt (o .at) ≡ signsOf c ++ restAt (o .at + j)
           unfolding outline
           rest-is = rw (from-got s (o .at) h x y c a j q)
@@ -134,7 +116,7 @@ module _ (s : List ℕ) where
         gap-told c a j q e n = passed (standing (o .at + j) 1 (o .ordinal)) n (rw (here, rest-is c a j q, e) (ap (keysFrom (o .ordinal) 1) (stand-marks (o .at + j) 1 (o .ordinal))))
 
         -- of a name
-        name-told : (c : Cmd) (a j place len : ℕ) (t : List ℕ) → command (getD s (o .at) 0) (drop (o .at + 1) s) ≡ got c a j → signsOf c ≡ namedSign t ∷ [] → partIn s place len ≡ t
+        name-told : (c : Cmd) (a j place len : ℕ) (t : List ℕ) → command (getD s (o .at) 0) (drop (o .at + 1) s) ≡ got c a j → signsOf c ≡ namedSign t ∷ [] → partOf s place len ≡ t
             → Onward s o (standing (o .at + j) 0 (o .ordinal)) → Told (naming o place len (standing (o .at + j) 0 (o .ordinal)))
         unfolding keysFrom
         name-told c a j place len t q e z n =
@@ -147,11 +129,11 @@ module _ (s : List ℕ) where
             on (ltb n origin)
             (λ z. rw z (gap-told (just (index n)) a j q (rw z) (rw z at r)))
             (λ z. rw z (named 0 0 (standing (o .at + j) 0 (o .ordinal)) (rw z at r)
-            (rw (here, rest-is (just (index n)) a j q, z, part-none s) (ap (λ (m : List Sign). record { name = []; gap = o .gap; ordinal = o .ordinal } ∷ keysFrom (o .ordinal) 0 m) (stand-marks (o .at + j) 0 (o .ordinal))))))
+            (rw (here, rest-is (just (index n)) a j q, z) (ap (λ (m : List Sign). record { name = []; gap = o .gap; ordinal = o .ordinal } ∷ keysFrom (o .ordinal) 0 m) (stand-marks (o .at + j) 0 (o .ordinal))))))
 
         got-told : (c : Cmd) (a j : ℕ) → command (getD s (o .at) 0) (drop (o .at + 1) s) ≡ got c a j → Onward s o (At c a j .on) → Told (At c a j)
         unfolding keysFrom
-        got-told (just (glyph n)) a j q r = name-told (just (glyph n)) a j (o .at + a) (length n) n q refl (part-is s (o .at + a) n (text-in (just (glyph n)) a j q) (stands (just (glyph n)) a j q)) r
+        got-told (just (glyph n)) a j q r = name-told (just (glyph n)) a j (o .at + a) (length n) n q refl (stands (just (glyph n)) a j q) r
         got-told (just (index n)) a j q r = index-told n a j q r
         got-told (just (to i n)) a j q r = plain-told (just (to i n)) a j q refl r
         got-told (just (by i n)) a j q r = plain-told (just (by i n)) a j q refl r
@@ -186,7 +168,7 @@ module _ (s : List ℕ) where
             let e : o .at + a + length bs - (o .at + a) ≡ length bs = omega arith in
             passed (At (word n bs) a j .on) r
             (rw (here, rest-is (word n bs) a j q, lt-ltb (o .at + a) (o .at + a + length bs) (omega arith), e, stands (word n bs) a j q))
-        got-told (pair n b) a j q r = name-told (pair n b) a j (o .at + a) 1 (b ∷ []) q refl (part-is s (o .at + a) (b ∷ []) (text-in (pair n b) a j q) (stands (pair n b) a j q)) r
+        got-told (pair n b) a j q r = name-told (pair n b) a j (o .at + a) 1 (b ∷ []) q refl (stands (pair n b) a j q) r
 
         scan-told : (z : Scan) → command (getD s (o .at) 0) (drop (o .at + 1) s) ≡ z → Onward s o (commandMove (length s) o (commandOf (o .at) z) .on) → Told (commandMove (length s) o (commandOf (o .at) z))
         unfolding outline

@@ -1,4 +1,4 @@
--- A part of the stream or the query, and the test of one glyph: the answer of each return, in the form in which `search` applies it.
+-- The test of one glyph: the answer of each return, in the form in which `search` applies it.
 use Prim.Native.Nat.{ℕ, zero, suc, _+_, _-_, _<_, _≤_}
 use native.Mathlib.Omega.{arith}
 use mathlib.Core.Bool.{Bool, true, false}
@@ -10,29 +10,11 @@ use borrow.Author.Needs.{needs}
 use borrow.Author.Tests.{le-leb, lt-leb, eq-eqb, ne-eqb}
 use Rattle.rules.specs.Bytes.{same}
 use Rattle.rules.specs.Find.{otherPage, otherName, gapPresent, gapAbsent, passes, gapTest, glyphTest, sameName, Reason as RulesReason}
-use Rattle.find_match.specs.Parts.{partIn}
+use Rattle.name.specs.Part.{partOf}
 use Rattle.find_match.specs.declared.Key.{Key}
 use Rattle.find_match.specs.declared.Reason.{Reason}
 use Rattle.find_match.specs.declared.Reason.the-variants as R
 use Rattle.find_match.specs.Match.{keyIn, gapAt, wantedIn, reasonOf, isFit}
-
--- ---- a part
-module _ (s : List ℕ) (place len : ℕ) where
-  pub part-far : length s < place → [] ≡ partIn s place len
-  unfolding partIn
-  part-far h = rw (lt-leb (place + len) (length s) (omega arith))
-
-  pub part-long : place ≤ length s → length s - place < len → [] ≡ partIn s place len
-  unfolding partIn
-  part-long h k = rw (lt-leb (place + len) (length s) (omega arith))
-
-  pub part-inside : place ≤ length s → len ≤ length s - place → take (place + len - place) (drop place s) ≡ partIn s place len
-  unfolding partIn
-  part-inside h k =
-      let z : place + len - place ≡ len = omega arith in
-      rw (z, le-leb (place + len) (length s) (omega arith))
-
-pub ruleset part-laws = (part-far, part-long, part-inside, needs)
 
 -- ---- gaps
 
@@ -66,8 +48,8 @@ module _ (s q rows : List ℕ) (j page : ℕ) (k : Key) where
   pub other-page : (k .ordinal ≡ page → ⊥) → R.OtherPage ≡ reasonOf (glyphTest page (wantedIn q rows j) (keyIn s k))
   other-page h = rw (ne-eqb (k .ordinal) page h)
 
-  module _ (place len : ℕ) (name wanted : List ℕ) (t : Bool) (h : k .ordinal ≡ page) (a : place ≡ getD rows j 0) (b : len ≡ getD rows (64 + j) 0) (n : name ≡ partIn s (k .place) (k .len)) (m : wanted ≡ partIn q place len) (e : t ≡ same name wanted) where
-    names : sameName (partIn s (k .place) (k .len)) (wantedIn q rows j .name) ≡ t
+  module _ (place len : ℕ) (name wanted : List ℕ) (t : Bool) (h : k .ordinal ≡ page) (a : place ≡ getD rows j 0) (b : len ≡ getD rows (64 + j) 0) (n : name ≡ partOf s (k .place) (k .len)) (m : wanted ≡ partOf q place len) (e : t ≡ same name wanted) where
+    names : sameName (partOf s (k .place) (k .len)) (wantedIn q rows j .name) ≡ t
     names = rw (← n, ← a, ← b, ← m) (sym e)
 
     pub other-name : t ≡ false → R.OtherName ≡ reasonOf (glyphTest page (wantedIn q rows j) (keyIn s k))

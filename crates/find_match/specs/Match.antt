@@ -8,14 +8,14 @@ use lib.ListN.{length, getD}
 use Rattle.rules.specs.declared.Record.{Record}
 use Rattle.rules.specs.Find.{Gap, anyGap, noGap, someGap, Wanted, otherPage, otherName, gapPresent, gapAbsent, Key as RulesKey, Reason as RulesReason}
 use Rattle.laws_find.specs.Occurs.{wantedAt}
-use Rattle.find_match.specs.Parts.{partIn}
+use Rattle.name.specs.Part.{partOf}
 use Rattle.find_match.specs.declared.Key.{Key}
 use Rattle.find_match.specs.declared.Reason.{Reason}
 use Rattle.find_match.specs.declared.Reason.the-variants as R
 
 -- what finding looks at in a record whose name stands in the stream
 abbrev pub keyIn : List ℕ → Key → RulesKey
-keyIn s k = record { name = partIn s (k .place) (k .len); gap = k .gap; ordinal = k .ordinal }
+keyIn s k = record { name = partOf s (k .place) (k .len); gap = k .gap; ordinal = k .ordinal }
 
 abbrev pub recordKey : Record → Key
 recordKey r = record { ordinal = r .ordinal; gap = r .gap; place = r .place; len = r .len }
@@ -28,7 +28,7 @@ gapAt (suc zero) = noGap
 gapAt (suc (suc n)) = someGap
 
 abbrev pub wantedIn : List ℕ → List ℕ → ℕ → Wanted
-wantedIn q rows j = record { gap = gapAt (getD rows (128 + j) 0); name = partIn q (getD rows j 0) (getD rows (64 + j) 0) }
+wantedIn q rows j = record { gap = gapAt (getD rows (128 + j) 0); name = partOf q (getD rows j 0) (getD rows (64 + j) 0) }
 
 -- the row holds the glyphs of the query
 pub record RowOf (q : List ℕ) (qs : List Wanted) (rows : List ℕ) : Type 0 where

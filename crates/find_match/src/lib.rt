@@ -4,7 +4,6 @@ ghost use mathlib.Core.Path.{_≡_};
 ghost use Prim.Native.Nat.{_<_};
 ghost use lib.ListN.{length};
 ghost use Rattle.rules.specs.Find.{passes, gapTest, glyphTest};
-ghost use Rattle.find_match.specs.Parts.{partIn};
 ghost use Rattle.find_match.specs.Match.{keyIn, recordKey, gapAt, wantedIn, reasonOf, isFit};
 
 // What finding looks at in a record.
@@ -33,27 +32,6 @@ pub fn key_of(r: Record) -> Key
         place: r.place as usize,
         len: r.len as usize,
     }
-}
-
-// The caller's part of s at a place with a length; the empty part where it does not lie in s.
-fn part<'a>(s: &'a [u8], place: usize, len: usize) -> &'a [u8]
-    ensures { λ r. ⌜ now r ≡ partIn (now (s .entry)) place len ⌝ }
-{
-    if s.len() < place {
-        return &s[..0];
-    }
-    if s.len() - place < len {
-        return &s[..0];
-    }
-    let end = place + len;
-    &s[place..end]
-}
-
-// The name of a record: the caller's part of the stream.
-pub fn name_of<'a>(s: &'a [u8], r: Record) -> &'a [u8]
-    ensures { λ n. ⌜ now n ≡ partIn (now (s .entry)) (r .place) (r .len) ⌝ }
-{
-    part(s, r.place as usize, r.len as usize)
 }
 
 // The gap mark against what the glyph asks of it: 0 nothing, 1 that it is not set, 2 that it is.
@@ -93,9 +71,9 @@ pub fn test(s: &[u8], q: &[u8], rows: &[u32], j: usize, page: u32, k: Key) -> Re
     }
     let place = wide(rows[j]);
     let len = wide(rows[64 + j]);
-    let name = part(s, k.place, k.len);
-    let wanted = part(q, place, len);
-    if scan_lex::same_bytes(name, wanted) {
+    let own = name::name_at(s, k.place, k.len);
+    let wanted = name::name_at(q, place, len);
+    if scan_lex::same_bytes(own, wanted) {
         gap_test(rows[128 + j], k.gap)
     } else {
         Reason::OtherName

@@ -23,7 +23,6 @@ use Rattle.laws.proofs.Cases.{on, no as impossible, if-both, or-true, take-fron
 use Rattle.laws_scan.proofs.Names.{RowIn, AllRows, RowsOf, names-stand}
 use Rattle.laws_find.specs.Occurs.{noWanted}
 use Rattle.laws_answers.proofs.Theorems.{keysIn, keys-by-outline}
-use Rattle.find_match.specs.Parts.{partIn}
 use Rattle.read_model.specs.declared.State.{State}
 use Rattle.read_model.specs.Passes.{ReadPass, readPassOf}
 use Rattle.read_model.proofs.Passes.{Refused, Accepted, Ended, length-map}
@@ -46,7 +45,6 @@ use Rattle.find_ask.specs.declared.Asked.{Asked}
 use Rattle.find_ask.specs.Ask.{RowHolds, askedAt, AsksWith, AsksOr, AsksFor}
 use Rattle.find_room.specs.Room.{hitsCounted, CountReady, tooMany}
 use Rattle.find_setup.specs.Setup.{queryHeldBack, BegunFrom, BegunOr, Begun, findNextOf, FewRecords, freshOf, progressOf, findAnswerOf}
-use Rattle.find_ask.proofs.Asking.{part-in}
 use Rattle.find_twice.proofs.Within.{pass-held}
 
 -- ---- refused before the stream is read, or read
@@ -168,9 +166,7 @@ module _ (q : List ℕ) (qs : List Wanted) (rows : List ℕ) (r : RowOf q qs row
 
 -- a record's name stands at its place
 pub seen-is : (s : List ℕ) (r : GlyphRow) → RowIn s r → keyIn s (recordKey (recordOf r)) ≡ keyOfRow r
-seen-is s r h =
-    let e : partIn s (r .place) (length (r .glyph .name)) ≡ r .glyph .name = part-in s (r .place) (length (r .glyph .name)) (h .within) ∙ h .stands in
-    λ i. record { name = e i; gap = r .glyph .gap; ordinal = r .glyph .ordinal }
+seen-is s r h = λ i. record { name = h .stands i; gap = r .glyph .gap; ordinal = r .glyph .ordinal }
 
 pub all-seen : (s : List ℕ) (xs : List GlyphRow) → AllRows s xs → map (λ (r : Record). keyIn s (recordKey r)) (map recordOf xs) ≡ map keyOfRow xs
 all-seen s [] h = refl

@@ -16,7 +16,8 @@ use Rattle.rules.specs.Bytes.{if_then_else_, bytes, same, isNotNewline}
 use Rattle.rules.specs.Widths.{linesFrom, behind}
 use Rattle.rules.specs.Find.{Expected, firstGlyph, gapGlyph, either, Wanted, Query, illFormed, wellFormed, withWanted, gapOf, mayPart, mayAsk, queryEnds, queryLine, queryLines, query}
 use Rattle.laws_find.specs.Occurs.{noWanted, wantedAt}
-use Rattle.query.specs.Asked.{queryOf, gapNumber, partOf, LinesIn, LinesOf}
+use Rattle.name.specs.Part.{partOf}
+use Rattle.query.specs.Asked.{queryOf, gapNumber, LinesIn, LinesOf}
 use Rattle.query_line.specs.Kinds.{kindBy, kindOf}
 use Rattle.query.specs.Turns.{expectedOf, endOf, glyphsBefore, LineRoom, Going, LineTurned}
 use Rattle.query.specs.declared.QueryAnswer.{QueryAnswer}

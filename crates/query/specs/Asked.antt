@@ -2,9 +2,10 @@
 use Prim.Native.Nat.{ℕ, _+_, _<_, _≤_}
 use mathlib.Core.List.{List}
 use mathlib.Core.Path.{_≡_}
-use lib.ListN.{length, take, drop, getD}
+use lib.ListN.{length, getD}
 use Rattle.rules.specs.Find.{Gap, anyGap, noGap, someGap, Wanted, Query, illFormed, wellFormed}
 use Rattle.laws_find.specs.Occurs.{wantedAt}
+use Rattle.name.specs.Part.{partOf}
 use Rattle.query.specs.declared.QueryAnswer.{QueryAnswer}
 use Rattle.query.specs.declared.QueryAnswer.the-variants as Q
 
@@ -18,10 +19,6 @@ abbrev pub gapNumber : Gap → ℕ
 gapNumber anyGap = 0
 gapNumber noGap = 1
 gapNumber someGap = 2
-
--- a part of a list of bytes, the empty part where it does not lie in the list
-abbrev pub partOf : List ℕ → ℕ → ℕ → List ℕ
-partOf s place len = take len (drop place s)
 
 -- the three rows hold the glyph lines: of each its name's place and length in the query, and what it asks of the gap mark
 pub record LinesIn (q : List ℕ) (qs : List Wanted) (places lens gaps : List ℕ) : Type 0 where

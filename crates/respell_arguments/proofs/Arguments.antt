@@ -6,11 +6,12 @@ use mathlib.Core.Path.{_≡_, refl, sym, ap, _∙_}
 use borrow.Author.Needs.{needs}
 use borrow.Author.Tests.{lt-ltb, le-ltb}
 use lib.ListN.{length}
+use Rattle.name.specs.Part.{partOf}
 use Rattle.scan_arguments.specs.declared.One.{One}
 use Rattle.scan_arguments.specs.declared.One.the-variants as A
 use Rattle.scan_arguments.specs.At.{oneAt}
-use Rattle.respell_model.specs.Sheet.{Sheet, putAll}
-use Rattle.respell_model.specs.Lines.{signedArg, argsFrom, byteOf}
+use Rattle.respell_model.specs.Sheet.{Sheet, put, putAll}
+use Rattle.respell_model.specs.Lines.{signedArg, nameArg, argsFrom, byteOf}
 use Rattle.respell_model.proofs.Sheets.{putAll-append}
 use Rattle.respell_bytes.proofs.Putting.{sheet, put-kept, all-kept}
 use Rattle.respell_arguments.proofs.Behind.{put-then}
@@ -23,6 +24,12 @@ module _ (b : ℕ) where
 
   pub byte-out : 256 ≤ b → 0 ≡ byteOf b
   byte-out h = rw (le-ltb b 256 h)
+
+-- ---- a name
+
+pub put-name : (o p q s own : List ℕ) (at a r place len : ℕ) → sheet p a ≡ put 32 (sheet o at) → own ≡ partOf s place len → sheet q r ≡ putAll own (sheet p a)
+    → sheet q r ≡ putAll (nameArg s place len) (sheet o at)
+put-name o p q s own at a r place len e n f = put-then o q at r p a 32 (partOf s place len) e (rw (← n) f)
 
 -- ---- integers that stand in the stream: k of them from i on are still to be written at x
 
@@ -71,4 +78,4 @@ module _ (s : List ℕ) (from n : ℕ) (o₀ : List ℕ) (at : ℕ) (o : List �
       let e : k ≡ 0 = omega arith in
       sym (v .whole ∙ ap (λ (j : ℕ). putAll (argsFrom j s i) (sheet o x)) e ∙ args-none s i (sheet o x))
 
-pub ruleset arguments = (put-then, byte-in, byte-out, args-start, args-size, args-stop, args-more, args-over, put-kept, all-kept, needs)
+pub ruleset arguments = (put-then, put-name, byte-in, byte-out, args-start, args-size, args-stop, args-more, args-over, put-kept, all-kept, needs)

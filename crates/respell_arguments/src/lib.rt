@@ -1,5 +1,5 @@
 // The arguments of a command in the house spelling (document 01, "House spelling": "one space before each argument, integers
-// shortest"), and lines of one letter and one number. Names are copied from the stream by their places. What each function writes is
+// shortest"), and lines of one letter and one number. A name is written from where it stands in the stream. What each function writes is
 // defined in respell_model.
 use scan_arguments::One;
 ghost use mathlib.Core.Path.{_≡_};
@@ -23,12 +23,12 @@ pub fn put_plain_arg(out: &mut [u8], at: usize, n: u32) -> usize
     respell_bytes::put_decimal(out, a, n)
 }
 
-// A part of the stream.
+// A name by its place and length in the stream.
 pub fn put_name_arg(out: &mut [u8], at: usize, s: &[u8], place: usize, len: usize) -> usize
     ensures { λ r. ⌜ record { bytes = now (out .exit); at = r } ≡ putAll (nameArg (now (s .entry)) place len) (record { bytes = now (out .entry); at = at }) ⌝ }
 {
     let a = respell_bytes::put(out, at, 32);
-    respell_bytes::put_part(out, a, s, place, len)
+    respell_bytes::put_all(out, a, name::name_at(s, place, len))
 }
 
 // n integers that stand in the stream from a place on.

@@ -51,6 +51,9 @@ module _ (n : ℕ) (ds : List ℕ) (i m : ℕ) (v : Digits n ds i m) where
   pub digits-size : length ds ≡ 8
   digits-size = v .size
 
+  pub digits-room : (d : ℕ) → 8 ≤ length (set ds i d)
+  digits-room d = omega (arith, length-set ds i d, v .size)
+
   pub digits-left : 9 < m → 0 < i
   digits-left h = go i (v .few)
     where
@@ -104,4 +107,4 @@ module _ (n : ℕ) (o p q : List ℕ) (at a r : ℕ) where
   unfolding signedSmall
   signed-above h f = f ∙ rw (le-ltb n origin h)
 
-pub ruleset writing = (small-on, small-off, digits-start, digits-place, digits-size, digits-left, digits-less, digits-next, digits-put, signed-below, signed-above, putting)
+pub ruleset writing = (small-on, small-off, digits-start, digits-place, digits-size, digits-room, digits-left, digits-less, digits-next, digits-put, signed-below, signed-above, putting)

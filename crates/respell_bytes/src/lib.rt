@@ -2,9 +2,9 @@
 // that one code measures a spelling and writes it. The count goes no further than one past the longest spelling.
 ghost use mathlib.Core.Path.{_≡_};
 ghost use Prim.Native.Nat.{_<_};
-ghost use lib.ListN.{take, drop};
 ghost use Rattle.rules.specs.House.{decimal};
 ghost use Rattle.respell_model.specs.Sheet.{further, put, putAll, small, signedSmall};
+ghost use Rattle.respell_bytes.specs.Onward.{onward};
 
 fn further(at: usize) -> usize
     ensures { λ r. ⌜ r ≡ further at ⌝ }
@@ -23,17 +23,33 @@ pub fn put(out: &mut [u8], at: usize, b: u8) -> usize
     }
 }
 
-// A part of the stream: its place and its length.
-pub fn put_part(out: &mut [u8], at: usize, s: &[u8], place: usize, len: usize) -> usize
-    ensures { λ r. ⌜ record { bytes = now (out .exit); at = r } ≡ putAll (take len (drop place (now (s .entry)))) (record { bytes = now (out .entry); at = at }) ⌝ }
+// The place behind n bytes that are not written.
+fn onward(at: usize, n: usize) -> usize
+    ensures { λ r. ⌜ r ≡ onward n at ⌝ }
 {
+    if at < 16_777_217 {
+        if n < 16_777_217 - at {
+            at + n
+        } else {
+            16_777_217
+        }
+    } else {
+        at
+    }
+}
+
+// A text, such as a name that stands in the stream. Behind the buffer its length is all that counts.
+pub fn put_all(out: &mut [u8], at: usize, text: &[u8]) -> usize
+    ensures { λ r. ⌜ record { bytes = now (out .exit); at = r } ≡ putAll (now (text .entry)) (record { bytes = now (out .entry); at = at }) ⌝ }
+{
+    if out.len() <= at {
+        return onward(at, text.len());
+    }
     let mut a = at;
-    let mut i = place;
-    let mut k = len;
-    while 0 < k && i < s.len() {
-        a = put(out, a, s[i]);
+    let mut i = 0;
+    while i < text.len() {
+        a = put(out, a, text[i]);
         i += 1;
-        k -= 1;
     }
     a
 }
@@ -57,7 +73,7 @@ pub fn put_decimal(out: &mut [u8], at: usize, n: u32) -> usize
         i -= 1;
     }
     digits[i] = 48 + (m as u8);
-    put_part(out, at, &digits, i, 8 - i)
+    put_all(out, at, &digits[i..])
 }
 
 // A number that is moved up by 100,000,000.

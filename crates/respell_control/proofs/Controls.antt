@@ -10,8 +10,9 @@ use borrow.Author.Tests.{lt-ltb, le-ltb, eq-eqb, ne-eqb}
 use borrow.Enum.Known.{lives-at}
 use denote.Enum.Declared.{tagOf}
 use types.Run.{OneOf, miss}
-use lib.ListN.{take, drop, getD}
+use lib.ListN.{getD}
 use Rattle.rules.specs.Bytes.{if_then_else_, is, isSpace, isNotWhite}
+use Rattle.name.specs.Part.{partOf}
 use Rattle.scan_command.specs.declared.Command.{Command}
 use Rattle.scan_command.specs.declared.Command.the-variants as C
 use Rattle.scan_command.proofs.Command.{enum, the-type}
@@ -67,11 +68,11 @@ if-not true x y = refl
 if-not false x y = refl
 
 module _ (s : List ℕ) (i e : ℕ) (o : List ℕ) (at : ℕ) where
-  pub raw-some : (p q : List ℕ) (a r b : ℕ) → i < e → b ≡ getD s i 0 → sheet p a ≡ putAll (if is "\n" b then [] else 32 ∷ []) (sheet o at) → sheet q r ≡ putAll (take (e - i) (drop i s)) (sheet p a)
+  pub raw-some : (p q text : List ℕ) (a r b : ℕ) → i < e → b ≡ getD s i 0 → sheet p a ≡ putAll (if is "\n" b then [] else 32 ∷ []) (sheet o at) → text ≡ partOf s i (e - i) → sheet q r ≡ putAll text (sheet p a)
       → sheet q r ≡ putAll (rawArg s i e) (sheet o at)
-  raw-some p q a r b h g f k =
+  raw-some p q text a r b h g f t k =
       rw (lt-ltb i e h, ← g, ← if-not (is "\n" b) [] (32 ∷ []))
-      (behind-all (if is "\n" b then [] else 32 ∷ []) (take (e - i) (drop i s)) (sheet o at) (sheet p a) (sheet q r) f k)
+      (behind-all (if is "\n" b then [] else 32 ∷ []) (partOf s i (e - i)) (sheet o at) (sheet p a) (sheet q r) f (rw (← t) k))
 
   pub raw-none : e ≤ i → sheet o at ≡ putAll (rawArg s i e) (sheet o at)
   raw-none h =

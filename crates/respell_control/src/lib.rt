@@ -1,5 +1,5 @@
-// Controls in the house spelling (document 01, "House spelling", "Controls"): `x` and its letter, with names and texts copied from
-// the stream by their places.
+// Controls in the house spelling (document 01, "House spelling", "Controls"): `x` and its letter, with names and texts written from
+// where they stand in the stream.
 use scan_command::Command;
 ghost use mathlib.Core.Path.{_≡_};
 ghost use mathlib.Core.List.{[], _∷_, _++_};
@@ -29,13 +29,13 @@ fn behind_word(s: &[u8], at: usize) -> usize
     scan_lex::string_end(s, scan_lex::spacer_end(s, at + 1))
 }
 
-// The text of an `x X` that stands from p to e, with a space before its first line where that is not empty.
+// The text of an `x X` that stands from p to e, looked up as a name is, with a space before its first line where that is not empty.
 fn put_raw(out: &mut [u8], at: usize, s: &[u8], p: usize, e: usize) -> usize
     ensures { λ r. ⌜ record { bytes = now (out .exit); at = r } ≡ putAll (rawArg (now (s .entry)) p e) (record { bytes = now (out .entry); at = at }) ⌝ }
 {
     if p < e {
         let a = put_first(out, at, scan_lex::byte_at(s, p));
-        respell_bytes::put_part(out, a, s, p, e - p)
+        respell_bytes::put_all(out, a, name::name_at(s, p, e - p))
     } else {
         at
     }

@@ -10,7 +10,6 @@ use small_text::field;
 use small_text::put;
 use small_text::put_all;
 use small_text::put_letter;
-use small_text::put_part;
 use small_text::put_refusal;
 use small_text::short_field;
 use small_text::signed_field;
@@ -51,7 +50,7 @@ fn put_name(line: &mut [u8], at: usize, s: &[u8], r: Record) -> usize {
     let a = short_field(line, at, r.place);
     let a = short_field(line, a, r.len);
     let a = put(line, a, b' ');
-    put_part(line, a, s, r.place, r.len)
+    put_all(line, a, name::name_of(s, r))
 }
 
 // `entry LETTERS ORDINAL PLACE LENGTH H V`: nothing of the stream itself.

@@ -20,21 +20,6 @@ pub fn put_all(line: &mut [u8], at: usize, text: &[u8]) -> usize {
     to
 }
 
-// The part of s of the given place and length, as far as s has it.
-pub fn put_part(line: &mut [u8], at: usize, s: &[u8], place: u32, len: u32) -> usize {
-    let mut to = at;
-    let mut i = place as usize;
-    let end = i + len as usize;
-    while i < end {
-        if i >= s.len() {
-            break;
-        }
-        to = put(line, to, s[i]);
-        i += 1;
-    }
-    to
-}
-
 pub fn put_number(line: &mut [u8], at: usize, n: u64) -> usize {
     let mut digits = [0u8; 20];
     let k = io::decimal(n, &mut digits);

@@ -13,7 +13,7 @@ use lib.Seq.{take-take, drop-drop}
 use Rattle.rules.specs.Bytes.{bytes, same, isNotNewline}
 use Rattle.rules.specs.Widths.{Widths, Due, unitDue, blockDue, widthDue, behind}
 use Rattle.widths_line.specs.declared.State.{State}
-use Rattle.widths_table.specs.Slots.{partOf}
+use Rattle.name.specs.Part.{partOf}
 use Rattle.widths_line.specs.Reading.{Holds, After, LineJudged, Stored, unitSays, byteSays, widthSays}
 use Rattle.widths_font.specs.Fonts.{Told, fontSays}
 use Rattle.widths.specs.Lines.{blockSays, turnSays, lengthAt}
@@ -34,28 +34,32 @@ part-short list at len = omega (arith, length-take len (drop at list))
 abbrev fontKey : List ℕ
 fontKey = bytes "font="
 
-module _ (list T P L t : List ℕ) (len next : ℕ) (st r : State) (et : t ≡ partOf list (st .at) len) (j : LineJudged next st r (byteSays t)) where
+-- a part from a place to an end
+slice-is : (list : List ℕ) (at len : ℕ) → take (at + len - at) (drop at list) ≡ partOf list at len
+slice-is list at len = let e : at + len - at ≡ len = omega arith in rw e
+
+module _ (list T P L : List ℕ) (len next : ℕ) (st r : State) (j : LineJudged next st r (byteSays (take (st .at + len - st .at) (drop (st .at) list)))) where
   byte-told : (w : Widths) (d : Due) → Holds list T P L w d st → After list T P L next r (byteSays (partOf list (st .at) len) w d)
-  byte-told w d v = subst (λ (x : List ℕ). After list T P L next r (byteSays x w d)) et (j .told list T P L w d v)
+  byte-told w d v = subst (λ (x : List ℕ). After list T P L next r (byteSays x w d)) (slice-is list (st .at) len) (j .told list T P L w d v)
 
   pub block-short : len < 5 → Told list T P L T P L next st r (blockSays (partOf list (st .at) len))
   block-short h = record {
     told = λ w d v. rw (key-short fontKey (partOf list (st .at) len) (omega (arith, part-short list (st .at) len))) (byte-told w d v);
   }
 
-  pub block-byte : (own : List ℕ) (f : Bool) → f ≡ same fontKey own → own ≡ partOf list (st .at) 5 → f ≡ false → 5 ≤ len → st .at + len ≤ length list
+  pub block-byte : (f : Bool) → f ≡ same fontKey (take (st .at + 5 - st .at) (drop (st .at) list)) → f ≡ false → 5 ≤ len → st .at + len ≤ length list
       → Told list T P L T P L next st r (blockSays (partOf list (st .at) len))
-  block-byte own f e eo g h l =
-      let q : same fontKey (take 5 (partOf list (st .at) len)) ≡ false = rw (part-front list (st .at) len 5 h, ← eo) (sym e ∙ g) in
+  block-byte f e g h l =
+      let q : same fontKey (take 5 (partOf list (st .at) len)) ≡ false = rw (part-front list (st .at) len 5 h, ← slice-is list (st .at) 5) (sym e ∙ g) in
       record {
         told = λ w d v. rw (key-off fontKey (partOf list (st .at) len) q) (byte-told w d v);
       }
 
-pub block-font : (list T P L T′ P′ L′ own : List ℕ) (len next : ℕ) (st r : State) (f : Bool) → f ≡ same fontKey own → own ≡ partOf list (st .at) 5 → f ≡ true → 5 ≤ len
+pub block-font : (list T P L T′ P′ L′ : List ℕ) (len next : ℕ) (st r : State) (f : Bool) → f ≡ same fontKey (take (st .at + 5 - st .at) (drop (st .at) list)) → f ≡ true → 5 ≤ len
     → Told list T P L T′ P′ L′ next st r (fontSays (partOf list (st .at + 5) (len - 5)))
     → Told list T P L T′ P′ L′ next st r (blockSays (partOf list (st .at) len))
-block-font list T P L T′ P′ L′ own len next st r f e eo g h v =
-    let q : same fontKey (take 5 (partOf list (st .at) len)) ≡ true = rw (part-front list (st .at) len 5 h, ← eo) (sym e ∙ g) in
+block-font list T P L T′ P′ L′ len next st r f e g h v =
+    let q : same fontKey (take 5 (partOf list (st .at) len)) ≡ true = rw (part-front list (st .at) len 5 h, ← slice-is list (st .at) 5) (sym e ∙ g) in
     let n : behind fontKey (partOf list (st .at) len) ≡ some (partOf list (st .at + 5) (len - 5)) = key-on fontKey (partOf list (st .at) len) q ∙ ap some (part-rest list (st .at) len 5) in
     record { told = λ w d u. rw n (v .told w d u) }
 
@@ -76,15 +80,15 @@ module _ (list T P L : List ℕ) (st r : State) (len : ℕ) (e : len ≡ lengthA
     ended : ltb (lengthAt list (st .at)) (length (drop (st .at) list)) ≡ true
     ended = lt-ltb (lengthAt list (st .at)) (length (drop (st .at) list)) (omega (arith, length-drop (st .at) list))
 
-    pub turn-unit : (t : List ℕ) → st .due ≡ 0 → t ≡ partOf list (st .at) len → LineJudged (st .at + len + 1) st r (unitSays t)
+    pub turn-unit : st .due ≡ 0 → LineJudged (st .at + len + 1) st r (unitSays (take (st .at + len - st .at) (drop (st .at) list)))
         → Told list T P L T P L (st .at + lengthAt list (st .at) + 1) st r (turnSays list (st .at))
-    turn-unit t h et j = record { told = by }
+    turn-unit h j = record { told = by }
       where
         by : (w : Widths) (d : Due) → Holds list T P L w d st → After list T P L (st .at + lengthAt list (st .at) + 1) r (turnSays list (st .at) w d)
         by w unitDue v =
             rw ended
             (subst (λ (n : ℕ). After list T P L (st .at + n + 1) r (unitSays (partOf list (st .at) n) w unitDue)) e
-            (subst (λ (x : List ℕ). After list T P L (st .at + len + 1) r (unitSays x w unitDue)) et (j .told list T P L w unitDue v)))
+            (subst (λ (x : List ℕ). After list T P L (st .at + len + 1) r (unitSays x w unitDue)) (slice-is list (st .at) len) (j .told list T P L w unitDue v)))
         by w blockDue v = absurd (omega (arith, v .due))
         by w (widthDue b) v = absurd (omega (arith, v .due))
 
@@ -97,13 +101,13 @@ module _ (list T P L : List ℕ) (st r : State) (len : ℕ) (e : len ≡ lengthA
         by w blockDue v = rw ended (subst (λ (n : ℕ). After list T′ P′ L′ (st .at + n + 1) r (blockSays (partOf list (st .at) n) w blockDue)) e (j .told w blockDue v))
         by w (widthDue b) v = absurd (omega (arith, v .due))
 
-    pub turn-width : (T′ t : List ℕ) → t ≡ partOf list (st .at) len → Stored T T′ (st .at + len + 1) st r (widthSays t)
+    pub turn-width : (T′ : List ℕ) → Stored T T′ (st .at + len + 1) st r (widthSays (take (st .at + len - st .at) (drop (st .at) list)))
         → Told list T P L T′ P L (st .at + lengthAt list (st .at) + 1) st r (turnSays list (st .at))
-    turn-width T′ t et j = record {
+    turn-width T′ j = record {
       told = λ w d v.
           rw ended
           (subst (λ (n : ℕ). After list T′ P L (st .at + n + 1) r (widthSays (partOf list (st .at) n) w d)) e
-          (subst (λ (x : List ℕ). After list T′ P L (st .at + len + 1) r (widthSays x w d)) et (j .told list P L w d v)));
+          (subst (λ (x : List ℕ). After list T′ P L (st .at + len + 1) r (widthSays x w d)) (slice-is list (st .at) len) (j .told list P L w d v)));
     }
 
 pub due-width : (st : State) → (Unit {0} × (st .due ≡ 0 → ⊥)) × (st .due ≡ 1 → ⊥) → 2 ≤ st .due

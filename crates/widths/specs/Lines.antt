@@ -5,7 +5,7 @@ use lib.Dec.{ltb}
 use lib.ListN.{length, drop}
 use Rattle.rules.specs.Bytes.{bytes, oneLine}
 use Rattle.rules.specs.Widths.{Line, Widths, Due, LineRead, behind, blockLine, lineRead}
-use Rattle.widths_table.specs.Slots.{partOf}
+use Rattle.name.specs.Part.{partOf}
 
 abbrev pub blockSays : List ℕ → Widths → Due → LineRead
 blockSays t w d = blockLine w t (behind (bytes "font=") t)

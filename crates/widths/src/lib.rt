@@ -4,7 +4,7 @@ ghost use mathlib.Core.Path.{_≡_};
 ghost use Prim.Native.Nat.{_+_, _≤_};
 ghost use lib.ListN.{length};
 ghost use Rattle.rules.specs.Widths.{widthList};
-ghost use Rattle.widths_table.specs.Slots.{partOf};
+ghost use Rattle.name.specs.Part.{partOf};
 ghost use Rattle.widths_font.specs.Fonts.{Good, Room, Told};
 ghost use Rattle.widths.specs.Lines.{blockSays, turnSays, lengthAt};
 ghost use Rattle.widths.specs.Table.{listOf, Loaded};
@@ -28,12 +28,13 @@ fn block_line(
     ensures { λ r. ⌜ Told (now (list .entry)) (now (table .entry)) (now (places .entry)) (now (lens .entry)) (now (table .exit)) (now (places .exit)) (now (lens .exit)) next st r (blockSays (partOf (now (list .entry)) (st .at) len)) ⌝ }
 {
     let at = st.at;
-    let t = widths_slot::part(list, at, len);
+    let end = at + len;
+    let t = &list[at..end];
     if len < 5 {
         return widths_line::byte_line(t, st, next);
     }
-    if scan_lex::same_bytes(b"font=", widths_slot::part(list, at, 5)) {
-        let place = at + 5;
+    let place = at + 5;
+    if scan_lex::same_bytes(b"font=", &list[at..place]) {
         widths_font::font_line(list, place, len - 5, table, places, lens, st, next)
     } else {
         widths_line::byte_line(t, st, next)
@@ -60,9 +61,9 @@ fn turn(list: &[u8], table: &mut [u32], places: &mut [u32], lens: &mut [u32], st
         let next = end + 1;
         let due = st.due;
         match due {
-            0 => widths_line::unit_line(widths_slot::part(list, at, len), st, next),
+            0 => widths_line::unit_line(&list[at..end], st, next),
             1 => block_line(list, len, table, places, lens, st, next),
-            _ => widths_line::width_line(widths_slot::part(list, at, len), table, st, next),
+            _ => widths_line::width_line(&list[at..end], table, st, next),
         }
     } else {
         widths_line::wrong(at)

@@ -10,7 +10,8 @@ use lib.Dec.{eqb}
 use lib.ListN.{length, set}
 use Rattle.rules.specs.Widths.{Widths, Due, blockDue, wrongLine, rightLine, isString, isNew, fontLine}
 use Rattle.laws.proofs.Cases.{on, and-left, and-right}
-use Rattle.widths_table.specs.Slots.{partOf, slotIn}
+use Rattle.name.specs.Part.{partOf}
+use Rattle.widths_table.specs.Slots.{slotIn}
 use Rattle.widths_table.proofs.Lookups.{slot-names, new-slot}
 use Rattle.widths_line.specs.declared.State.{State}
 use Rattle.widths_line.specs.Reading.{Holds}

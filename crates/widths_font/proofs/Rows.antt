@@ -7,7 +7,7 @@ use borrow.Author.Needs.{needs}
 use lib.ListN.{length, getD, set, length-set}
 use lib.Seq.{getD-set-same, getD-set-other}
 use Rattle.rules.specs.Widths.{Font, widthIn}
-use Rattle.widths_table.specs.Slots.{partOf}
+use Rattle.name.specs.Part.{partOf}
 use Rattle.widths_table.specs.Table.{fontAt, entryFor, TableOf, NamesOf}
 use Rattle.widths_table.proofs.Lookups.{font-front, font-behind}
 use Rattle.widths_line.proofs.Rows.{each-slot}

@@ -3,7 +3,7 @@ use widths_line::State;
 ghost use mathlib.Core.Path.{_≡_};
 ghost use Prim.Native.Nat.{_+_, _≤_, _<_};
 ghost use lib.ListN.{length};
-ghost use Rattle.widths_table.specs.Slots.{partOf};
+ghost use Rattle.name.specs.Part.{partOf};
 ghost use Rattle.widths_font.specs.Fonts.{isFresh, Good, Room, Cleared, Told, fontSays};
 
 // Clears the 256 places of a slot.
@@ -45,7 +45,7 @@ pub fn font_line(
 {
     let k = st.fonts;
     if k < 32 {
-        if is_fresh(list, places, lens, k, widths_slot::part(list, place, len)) {
+        if is_fresh(list, places, lens, k, name::name_at(list, place, len)) {
             clear(table, k);
             places[k] = place as u32;
             lens[k] = len as u32;

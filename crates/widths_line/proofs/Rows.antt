@@ -9,7 +9,7 @@ use lib.ListN.{length, getD, set}
 use lib.Seq.{getD-set-same, getD-set-other}
 use Rattle.rules.specs.Widths.{Width, Font, widthIn}
 use Rattle.laws.proofs.Cases.{on}
-use Rattle.widths_table.specs.Slots.{partOf}
+use Rattle.name.specs.Part.{partOf}
 use Rattle.widths_table.specs.Table.{fontAt, entryFor, TableOf, NamesOf}
 use Rattle.widths_table.proofs.Lookups.{font-front, font-behind}
 

@@ -1,47 +1,15 @@
--- Parts of the list, and the slot of a name.
-use Prim.Native.Nat.{ℕ, suc, _+_, _-_, _≤_, _<_, min}
+-- The slot of a name.
+use Prim.Native.Nat.{ℕ, suc, _-_, _≤_, _<_}
 use mathlib.Core.Path.{_≡_, sym, _∙_}
 use mathlib.Core.Bool.{Bool, true, false}
 use mathlib.Core.List.{List}
 use native.Mathlib.Omega.{arith}
 use borrow.Author.Needs.{needs}
-use borrow.Author.Tests.{leb-true, leb-false}
-use lib.Dec.{leb}
-use lib.ListN.{length, take, drop, getD, length-drop, drop-of-length-le}
-use lib.Seq.{take-all, take-length, drop-length}
+use lib.ListN.{getD}
 use Rattle.rules.specs.Bytes.{if_then_else_, same}
-use Rattle.laws.proofs.Cases.{on}
-use Rattle.widths_table.specs.Slots.{partOf, nameAt, slotIn}
+use Rattle.name.specs.Part.{partOf}
+use Rattle.widths_table.specs.Slots.{nameAt, slotIn}
 
--- ---- a part
-take-min : (n : ℕ) (l : List ℕ) → take (min n (length l)) l ≡ take n l
-take-min n l =
-    on (leb n (length l))
-    (λ h.
-    let e : min n (length l) ≡ n = omega (arith, leb-true n (length l) h) in
-    rw e)
-    (λ h.
-    let e : min n (length l) ≡ length l = omega (arith, leb-false n (length l) h) in
-    rw (e, take-length l, take-all n l (omega (arith, leb-false n (length l) h))))
-
-drop-min : (n : ℕ) (l : List ℕ) → drop (min n (length l)) l ≡ drop n l
-drop-min n l =
-    on (leb n (length l))
-    (λ h.
-    let e : min n (length l) ≡ n = omega (arith, leb-true n (length l) h) in
-    rw e)
-    (λ h.
-    let e : min n (length l) ≡ length l = omega (arith, leb-false n (length l) h) in
-    rw (e, drop-length l, drop-of-length-le l {i = n} (omega (arith, leb-false n (length l) h))))
-
-pub part-cut : (s : List ℕ) (place len start size : ℕ) → start ≡ min place (length s) → size ≡ min len (length s - start)
-    → take (start + size - start) (drop start s) ≡ partOf s place len
-part-cut s place len start size p q =
-    let d : drop start s ≡ drop place s = rw p (drop-min place s) in
-    let e : start + size - start ≡ min len (length (drop start s)) = omega (arith, length-drop start s) in
-    rw (e, take-min, d)
-
--- ---- the slot of a name
 pub named-is : (list places lens name own : List ℕ) (i p l : ℕ) (t : Bool) → t ≡ same own name → own ≡ partOf list p l → p ≡ getD places i 0 → l ≡ getD lens i 0
     → t ≡ same (nameAt list places lens i) name
 named-is list places lens name own i p l t e f g h = rw (e, f, g, h)
@@ -70,4 +38,4 @@ slot-none list places lens name fonts k v h =
     let e : k ≡ 0 = omega arith in
     sym (v ∙ rw e)
 
-pub ruleset names = (part-cut, named-is, slot-part, slot-here, slot-more, slot-none, needs)
+pub ruleset names = (named-is, slot-part, slot-here, slot-more, slot-none, needs)

@@ -1,26 +1,10 @@
 // The slot of a font in the table of widths: its name is looked for among those of the list.
 ghost use mathlib.Core.Path.{_≡_};
-ghost use Prim.Native.Nat.{_-_, _≤_, _<_, min};
+ghost use Prim.Native.Nat.{_≤_, _<_};
 ghost use lib.ListN.{length};
 ghost use Rattle.rules.specs.Bytes.{same};
-ghost use Rattle.widths_table.specs.Slots.{partOf, nameAt, slotIn};
-
-// The smaller of two numbers.
-fn least(a: usize, b: usize) -> usize
-    ensures { λ r. ⌜ (r ≤ a) × (r ≤ b) × (r ≡ min a b) ⌝ }
-{
-    if a < b { a } else { b }
-}
-
-// The part of s at a place, cut where s ends.
-pub fn part(s: &[u8], place: usize, len: usize) -> &[u8]
-    ensures { λ r. ⌜ now r ≡ partOf (now (s .entry)) place len ⌝ }
-{
-    let start = least(place, s.len());
-    let size = least(len, s.len() - start);
-    let end = start + size;
-    &s[start..end]
-}
+ghost use Rattle.name.specs.Part.{partOf};
+ghost use Rattle.widths_table.specs.Slots.{nameAt, slotIn};
 
 pub fn wide(x: u32) -> usize
     ensures { λ r. ⌜ r ≡ x ⌝ }
@@ -33,7 +17,7 @@ fn is_named(list: &[u8], places: &[u32], lens: &[u32], i: usize, name: &[u8]) ->
     requires { ⌜ (i < length (now places)) × (i < length (now lens)) ⌝ }
     ensures { λ r. ⌜ r ≡ same (nameAt (now (list .entry)) (now (places .entry)) (now (lens .entry)) i) (now (name .entry)) ⌝ }
 {
-    let own = part(list, wide(places[i]), wide(lens[i]));
+    let own = name::name_at(list, wide(places[i]), wide(lens[i]));
     scan_lex::same_bytes(own, name)
 }
 
@@ -66,5 +50,5 @@ pub fn slot(
     requires { ⌜ (fonts ≤ length (now places)) × (fonts ≤ length (now lens)) ⌝ }
     ensures { λ r. ⌜ r ≡ slotIn (now (list .entry)) (now (places .entry)) (now (lens .entry)) fonts (partOf (now (s .entry)) place len) ⌝ }
 {
-    slot_of(list, places, lens, fonts, part(s, place, len))
+    slot_of(list, places, lens, fonts, name::name_at(s, place, len))
 }

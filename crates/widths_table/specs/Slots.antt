@@ -1,12 +1,9 @@
 -- What the code looks at in place of the rules' fonts: the names' places and lengths in the list.
 use Prim.Native.Nat.{ℕ, zero, suc}
 use mathlib.Core.List.{List}
-use lib.ListN.{take, drop, getD}
+use lib.ListN.{getD}
 use Rattle.rules.specs.Bytes.{if_then_else_, same}
-
--- the part of a list of bytes at a place, cut where the list ends
-abbrev pub partOf : List ℕ → ℕ → ℕ → List ℕ
-partOf s place len = take len (drop place s)
+use Rattle.name.specs.Part.{partOf}
 
 abbrev pub nameAt : List ℕ → List ℕ → List ℕ → ℕ → List ℕ
 nameAt list places lens i = partOf list (getD places i 0) (getD lens i 0)

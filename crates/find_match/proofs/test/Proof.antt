@@ -5,7 +5,7 @@ use Rattle.find_match.proofs.test.Reads as reads
 use Rattle.find_match.proofs.test.Lts as lts
 use Rattle.find_match.proofs.gap_test.Reads as gap-test-reads
 use Rattle.find_match.proofs.wide.Reads as wide-reads
-use Rattle.find_match.proofs.part.Reads as part-reads
+use Rattle.name.proofs.name_at.Reads as name-at-reads
 use Rattle.scan_lex.proofs.same_bytes.Reads as same-bytes-reads
 
 returns : tie.Need-returns
@@ -32,11 +32,11 @@ shared-slice-read-wide-2 c = search glyph-tests
 wide-requires-2 : tie.Need-wide-requires-2
 wide-requires-2 c κs = search glyph-tests
 
-part-requires : tie.Need-part-requires
-part-requires c κs = search glyph-tests
+name-at-requires : tie.Need-name-at-requires
+name-at-requires c κs = search glyph-tests
 
-part-requires-2 : tie.Need-part-requires-2
-part-requires-2 c κs = search glyph-tests
+name-at-requires-2 : tie.Need-name-at-requires-2
+name-at-requires-2 c κs = search glyph-tests
 
 same-bytes-requires : tie.Need-same-bytes-requires
 same-bytes-requires c κs = search glyph-tests
@@ -71,8 +71,8 @@ test-spec =
     mul-wide-2
     shared-slice-read-wide-2
     wide-requires-2
-    part-requires
-    part-requires-2
+    name-at-requires
+    name-at-requires-2
     same-bytes-requires
     add-gap-test
     mul-gap-test

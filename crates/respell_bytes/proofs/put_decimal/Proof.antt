@@ -42,14 +42,17 @@ add-digits-2 c = search writing
 array-write-digits-2 : tie.Need-array-write-digits-2 Inv-loop μ-loop
 array-write-digits-2 c = search writing
 
-slice-aggregate-put-part : tie.Need-slice-aggregate-put-part Inv-loop μ-loop
-slice-aggregate-put-part c = search writing
+sub-put-all : tie.Need-sub-put-all Inv-loop μ-loop
+sub-put-all c = search writing
 
-sub-put-part : tie.Need-sub-put-part Inv-loop μ-loop
-sub-put-part c = search writing
+part-put-all-start : tie.Need-part-put-all-start Inv-loop μ-loop
+part-put-all-start c = search writing
 
-put-part-requires : tie.Need-put-part-requires Inv-loop μ-loop
-put-part-requires c κs = search writing
+part-put-all-end : tie.Need-part-put-all-end Inv-loop μ-loop
+part-put-all-end c = search writing
+
+put-all-requires : tie.Need-put-all-requires Inv-loop μ-loop
+put-all-requires c κs = search writing
 
 same-length : tie.Need-same-length Inv-loop μ-loop
 same-length c = search writing
@@ -74,8 +77,9 @@ put-decimal-spec =
     cast-digits-2
     add-digits-2
     array-write-digits-2
-    slice-aggregate-put-part
-    sub-put-part
-    put-part-requires
+    sub-put-all
+    part-put-all-start
+    part-put-all-end
+    put-all-requires
     same-length
     returns)

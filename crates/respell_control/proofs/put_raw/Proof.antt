@@ -8,11 +8,14 @@ byte-at-requires c κs = search controls
 put-first-requires : tie.Need-put-first-requires
 put-first-requires c κs = search controls
 
-sub-put-part : tie.Need-sub-put-part
-sub-put-part c = search controls
+sub-name-at : tie.Need-sub-name-at
+sub-name-at c = search controls
 
-put-part-requires : tie.Need-put-part-requires
-put-part-requires c κs = search controls
+name-at-requires : tie.Need-name-at-requires
+name-at-requires c κs = search controls
+
+put-all-requires : tie.Need-put-all-requires
+put-all-requires c κs = search controls
 
 same-length : tie.Need-same-length
 same-length c = search controls
@@ -29,8 +32,9 @@ put-raw-spec =
     (tie.spec
     byte-at-requires
     put-first-requires
-    sub-put-part
-    put-part-requires
+    sub-name-at
+    name-at-requires
+    put-all-requires
     same-length
     returns
     returns-2)

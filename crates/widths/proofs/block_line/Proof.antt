@@ -6,4 +6,4 @@ pub block-line-spec : {M : Type 1} → statement M
 block-line-spec =
     tie.close
     (tie.spec
-    (λ c κs. search turning) (λ c κs. search turning) (λ c. search turning) (λ c. search turning) (λ c κs. search turning) (λ c κs. search turning) (λ c. search turning) (λ c κs. search turning) (λ c κs. search turning) (λ c. search turning) (λ c. search turning) (λ c. search turning) (λ c. search turning) (λ c. search turning))
+    (λ c. search turning) (λ c. search turning) (λ c. search turning) (λ c. search turning) (λ c κs. search turning) (λ c. search turning) (λ c. search turning) (λ c. search turning) (λ c. search turning) (λ c. search turning) (λ c. search turning) (λ c κs. search turning) (λ c κs. search turning) (λ c κs. search turning) (λ c. search turning) (λ c. search turning) (λ c. search turning) (λ c. search turning) (λ c. search turning))

@@ -6,4 +6,4 @@ pub turn-spec : {M : Type 1} → statement M
 turn-spec =
     tie.close
     (tie.spec
-    (λ c κs. search turning) (λ c. search turning) (λ c. search turning) (λ c κs. search turning) (λ c κs. search turning) (λ c κs. search turning) (λ c κs. search turning) (λ c κs. search turning) (λ c κs. search turning) (λ c. search turning) (λ c. search turning) (λ c. search turning) (λ c. search turning) (λ c. search turning) (λ c. search turning) (λ c. search turning) (λ c. search turning))
+    (λ c κs. search turning) (λ c. search turning) (λ c. search turning) (λ c. search turning) (λ c. search turning) (λ c. search turning) (λ c κs. search turning) (λ c κs. search turning) (λ c. search turning) (λ c. search turning) (λ c. search turning) (λ c κs. search turning) (λ c κs. search turning) (λ c. search turning) (λ c. search turning) (λ c. search turning) (λ c. search turning) (λ c. search turning) (λ c. search turning) (λ c. search turning) (λ c. search turning))
