@@ -6,7 +6,6 @@ use Prim.Native.Nat.{ℕ, zero, suc, _<_, _≤_, _^_}
 use native.Mathlib.Omega.{arith}
 use mathlib.Core.Bool.{Bool}
 use mathlib.Core.List.{[], _∷_, List}
-use mathlib.Core.Logic.{_⊎_, inl, inr}
 use lib.Dec.{lit<}
 use lib.ListN.{length}
 use borrow.Author.Tests.{lt-ltb, le-ltb}
@@ -72,11 +71,6 @@ use Rattle.respell_pass.proofs.pass as f
 use Rattle.respell_pass.proofs.pass.Statement as stated
 use Rattle.respell_pass.proofs.pass.Code as code
 use Rattle.respell_pass.proofs.pass.Code.Mir as mir
-
--- ---- the pass, with no machine
-zero-or : (m : ℕ) → (m ≤ 0) ⊎ (0 < m)
-zero-or zero = inl (omega arith)
-zero-or (suc m) = inr (omega arith)
 
 -- machine values
 abbrev stv : State → Val
@@ -186,8 +180,16 @@ module _ {M : Type 1} (𝓤 : URA M) (H : Heap 𝓤) (A : Atoms 𝓤) (W : Given
   -- `turn`, on the rows lent again for the lifetimes ν and ν′ under the names δ and δ′
   module _ (p : RespellPass) where
     abbrev to-turn : ℕ → GName → ℕ → GName → Turns 𝓤 H A mem run .Ghost
-    to-turn ν δ ν′ δ′ = (((ν ∷ [], (ν′ ∷ [], (κ₂, (κ₃, tt)))), (fullShare, (fullShare, (q₂, (q₃, tt)))), tt, (refAt b₀ o₀ δ (p .bytes), (refAt b₁ o₁ δ′ (p .scratch), (reader (refAt b₂ o₂ γ₂ ss) (p .state .at), (refAt b₃ o₃ γ₃ ls, (p .state, (p .mark, tt)))))),
-        (ov ∷ [], (tv ∷ [], (rv (p .state .at) ∷ [], (lv ∷ [], (stv (p .state) ∷ [], (mv (p .mark) ∷ [], tt))))))), tt)
+    to-turn ν δ ν′ δ′ = (
+      (
+        (ν ∷ [], (ν′ ∷ [], (κ₂, (κ₃, tt)))),
+        (fullShare, (fullShare, (q₂, (q₃, tt)))),
+        tt,
+        (refAt b₀ o₀ δ (p .bytes), (refAt b₁ o₁ δ′ (p .scratch), (reader (refAt b₂ o₂ γ₂ ss) (p .state .at), (refAt b₃ o₃ γ₃ ls, (p .state, (p .mark, tt)))))),
+        (ov ∷ [], (tv ∷ [], (rv (p .state .at) ∷ [], (lv ∷ [], (stv (p .state) ∷ [], (mv (p .mark) ∷ [], tt)))))),
+      ),
+      tt,
+    )
 
     abbrev turn-asks : SProp 𝓤
     turn-asks = sep 𝓤 (sep 𝓤 (A .lft κ₂ q₂) (A .lft κ₃ q₃)) (sep 𝓤 (sep 𝓤 (sem 𝓤 H A (Read (p .state .at))) (sem 𝓤 H A Names)) (sep 𝓤 (sem 𝓤 H A (TS.the-row .own (p .state) (stv (p .state) ∷ []))) (sem 𝓤 H A (TM.the-row .own (p .mark) (mv (p .mark) ∷ [])))))
@@ -316,7 +318,11 @@ module _ {M : Type 1} (𝓤 : URA M) (H : Heap 𝓤) (A : Atoms 𝓤) (W : Given
           by ! (exits is₀ p (known-over ls ss (w₀ .state) (w₀ .mark) ts os (p .state) (p .mark) (p .scratch) (p .bytes) (kn .known) over) (kn .known .out-size) (kn .known .row-size) (kn .is))
 
       turn : (pn : RespellPass × ℕ) → P pn → (X : SProp 𝓤) → Again 𝓤 H A W 𝓣 En mir.turn-1 Left P left At pn X → ent 𝓤 (⋆ 𝓤 H A (At pn)) (Wp 𝓤 H C Λ En mir.turn-1 (afterTurn 𝓤 H X Left))
-      turn (p, n) kn X again = elim (zero-or (p .state .left)) [ inl over ↦ ends p n kn over X | inr going ↦ more p n kn going X again ]
+      turn (p, n) kn X again = by-left (p .state .left) refl
+        where
+          by-left : (m : ℕ) → p .state .left ≡ m → ent 𝓤 (⋆ 𝓤 H A (At (p, n))) (Wp 𝓤 H C Λ En mir.turn-1 (afterTurn 𝓤 H X Left))
+          by-left zero e = ends p n kn (omega arith) X
+          by-left (suc m) e = more p n kn (omega arith) X again
 
       loops : Here ls ss w₀ ts os (begun w₀ ts os) → ent 𝓤 (⋆ 𝓤 H A (At (begun w₀ ts os, 0))) (Wp 𝓤 H C Λ En (loop mir.turn-1) Left)
       loops kn = by-turns 𝓤 H A W 𝓣 En mir.turn-1 Left P left At turn (begun w₀ ts os, 0) kn
