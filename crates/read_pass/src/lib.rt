@@ -3,6 +3,7 @@ use read_model::Effect;
 use read_model::State;
 use rules::Entry;
 use rules::Record;
+use scan_reader::Reader;
 ghost use mathlib.Core.Path.{_≡_};
 ghost use lib.ListN.{length};
 ghost use Rattle.read_model.specs.Passes.{readPassOf};
@@ -21,9 +22,11 @@ pub fn pass(
     requires { ⌜ PassReady (length (now s)) (now ws) (length (now records)) (length (now entries)) from ⌝ }
     ensures { λ r. ⌜ record { state = r; scratch = now (ws .exit); records = now (records .exit); entries = now (entries .exit) } ≡ readPassOf (findIn (now (list .entry)) (from .fonts) (now (ws .entry))) (now (s .entry)) (record { state = from; scratch = now (ws .entry); records = now (records .entry); entries = now (entries .entry) }) ⌝ }
 {
+    let mut reader = Reader::new(s);
     let mut st = from;
     while 0 < st.left {
-        let x = read_turn::turn(ws, s, list, st);
+        reader.at = st.at;
+        let x = read_turn::turn(ws, reader, list, st);
         let effect = x.effect;
         match effect {
             Effect::Nothing => {}

@@ -38,37 +38,40 @@ command-turned s ws st c t g h = rw (← g) h
 pub command-mounts : (find : List ℕ → ℕ) (s ws : List ℕ) (st : State) (c : Command) (r : List ℕ) → c ≡ commandAt s (st .at) → r ≡ scratchAfter find s ws (st .env) c → r ≡ scratchAfter find s ws (st .env) (commandAt s (st .at))
 command-mounts find s ws st c r g h = rw (← g) h
 
--- ---- a turn
+-- ---- a turn at the state's place
 
-module _ (find : List ℕ → ℕ) (s ws : List ℕ) (st : State) (b : ℕ) (w : Bool) (e : b ≡ getD s (st .at) 0) (p : w ≡ isWhite b) where
-  pub white-turn : (t : Turned) → w ≡ true → t ≡ skipped (length s) st (st .at + 1) → t ≡ turnOf s ws st
+pub here-at : (n at : ℕ) (st : State) → at ≡ st .at → Ready n st → at < n
+here-at n at st i r = omega (arith, here-some n st r)
+
+module _ (find : List ℕ → ℕ) (s ws : List ℕ) (st : State) (at b : ℕ) (w : Bool) (i : at ≡ st .at) (e : b ≡ getD s at 0) (p : w ≡ isWhite b) where
+  pub white-turn : (t : Turned) → w ≡ true → t ≡ skipped (length s) st (at + 1) → t ≡ turnOf s ws st
   unfolding turnOf
-  white-turn t h q = rw (← e, ← p, h, q)
+  white-turn t h q = rw (← i, ← e, ← p, h, q)
 
   pub white-keeps : w ≡ true → ws ≡ scratchOf find s ws st
   unfolding scratchOf
-  white-keeps h = rw (← e, ← p, h)
+  white-keeps h = rw (← i, ← e, ← p, h)
 
-  pub comment-turn : (t : Turned) (next : ℕ) → w ≡ false → b ≡ 35 → next ≡ runEnd isNotNewline s (st .at + 1) → t ≡ skipped (length s) st next → t ≡ turnOf s ws st
+  pub comment-turn : (t : Turned) (next : ℕ) → w ≡ false → b ≡ 35 → next ≡ runEnd isNotNewline s (at + 1) → t ≡ skipped (length s) st next → t ≡ turnOf s ws st
   unfolding turnOf runEnd
-  comment-turn t next h k l q = rw (← e, ← p, h, k, q, l)
+  comment-turn t next h k l q = rw (← i, ← e, ← p, h, k, q, l)
 
   pub comment-keeps : w ≡ false → b ≡ 35 → ws ≡ scratchOf find s ws st
   unfolding scratchOf
-  comment-keeps h k = rw (← e, ← p, h, k)
+  comment-keeps h k = rw (← i, ← e, ← p, h, k)
 
   pub other-turn : (t : Turned) → w ≡ false → (b ≡ 35 → ⊥) → t ≡ turnOn s ws st (commandAt s (st .at)) → t ≡ turnOf s ws st
   unfolding turnOf
-  other-turn t h k q = rw (← e, ← p, h, ne-eqb b 35 k, q)
+  other-turn t h k q = rw (q, ← i, ← e, ← p, h, ne-eqb b 35 k)
 
   pub other-mounts : (r : List ℕ) → w ≡ false → (b ≡ 35 → ⊥) → r ≡ scratchAfter find s ws (st .env) (commandAt s (st .at)) → r ≡ scratchOf find s ws st
   unfolding scratchOf
-  other-mounts r h k q = rw (← e, ← p, h, ne-eqb b 35 k, q)
+  other-mounts r h k q = rw (q, ← i, ← e, ← p, h, ne-eqb b 35 k)
 
 pub comment-ends : (s : List ℕ) (at next : ℕ) → at < length s → next ≡ runEnd isNotNewline s (at + 1) → next ≤ length s
 unfolding runEnd
 comment-ends s at next h e = rw e (comment-in s at h)
 
-pub ruleset turn-laws = (here-some, white-turn, white-keeps, comment-turn, comment-keeps, other-turn, other-mounts, comment-ends, needs)
+pub ruleset turn-laws = (here-at, white-turn, white-keeps, comment-turn, comment-keeps, other-turn, other-mounts, comment-ends, needs)
 
 pub ruleset commanding = (command-within, here-some, next-most, turned-is, command-turned, command-mounts, needs)

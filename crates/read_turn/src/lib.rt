@@ -4,6 +4,7 @@ use read_model::Did;
 use read_model::State;
 use read_model::Turned;
 use scan_command::Command;
+use scan_reader::Reader;
 ghost use mathlib.Core.Path.{_≡_};
 ghost use Prim.Native.Nat.{_<_};
 ghost use lib.ListN.{length};
@@ -52,12 +53,11 @@ fn command_turn(ws: &mut [u32], s: &[u8], list: &[u8], st: State) -> Turned
     r
 }
 
-// Whitespace, a comment, or one command.
-pub fn turn(ws: &mut [u32], s: &[u8], list: &[u8], st: State) -> Turned
-    requires { ⌜ Scratch (now ws) × Ready (length (now s)) st ⌝ }
+// Whitespace, a comment, or one command, at the state's place.
+fn turn_at(ws: &mut [u32], s: &[u8], list: &[u8], at: usize, st: State) -> Turned
+    requires { ⌜ (at ≡ st .at) × Scratch (now ws) × Ready (length (now s)) st ⌝ }
     ensures { λ r. ⌜ (r ≡ turnOf (now (s .entry)) (now (ws .entry)) st) × (now (ws .exit) ≡ scratchOf (findIn (now (list .entry)) (st .fonts) (now (ws .entry))) (now (s .entry)) (now (ws .entry)) st) ⌝ }
 {
-    let at = st.at;
     let b = s[at];
     if scan_lex::is_white(b) {
         return read_count::skipped(s.len(), st, at + 1);
@@ -67,4 +67,12 @@ pub fn turn(ws: &mut [u32], s: &[u8], list: &[u8], st: State) -> Turned
         return read_count::skipped(s.len(), st, next);
     }
     command_turn(ws, s, list, st)
+}
+
+// A turn where the reader stands: the struct is taken apart.
+pub fn turn(ws: &mut [u32], reader: Reader, list: &[u8], st: State) -> Turned
+    requires { ⌜ (reader .at ≡ st .at) × Scratch (now ws) × Ready (length (now (reader .stream))) st ⌝ }
+    ensures { λ r. ⌜ (r ≡ turnOf (now (reader .entry .stream)) (now (ws .entry)) st) × (now (ws .exit) ≡ scratchOf (findIn (now (list .entry)) (st .fonts) (now (ws .entry))) (now (reader .entry .stream)) (now (ws .entry)) st) ⌝ }
+{
+    turn_at(ws, reader.stream, list, reader.at, st)
 }

@@ -4,7 +4,6 @@ use native.Mathlib.Omega.{arith}
 use mathlib.Core.List.{List}
 use mathlib.Core.Path.{_≡_, refl, sym, ap, _∙_}
 use lib.ListN.{length, drop}
-use borrow.Author.Needs.{needs}
 use borrow.Author.Tests.{ne-eqb}
 use Rattle.read_model.specs.declared.State.{State}
 use Rattle.read_model.specs.Turns.{turnOf, scratchOf}
@@ -45,18 +44,6 @@ pub turn-less : (find : List ℕ → ℕ) (s : List ℕ) (st : State) (m : Mark)
 turn-less find s st m ws o x n t q g r e = rw (ap (λ (p : RespellPass). p .state) e) (turn-well s ws st r (g .small) .less)
 
 module _ (list s : List ℕ) (st₀ : State) (m₀ : Mark) (ws₀ o₀ : List ℕ) (st : State) (m : Mark) (ws o : List ℕ) (v : Known list s st₀ m₀ ws₀ o₀ st m ws o) where
-  pub known-scratch : Scratch ws
-  known-scratch = v .scratch
-
-  pub known-ready : 0 < st .left → Ready (length s) st
-  known-ready h = v .ready h
-
-  pub known-row : length ws ≡ length ws₀
-  known-row = v .row-size
-
-  pub known-out : length o ≡ length o₀
-  known-out = v .out-size
-
   pub known-over : st .left ≤ 0 → standing st m ws o ≡ respellPassOf (findIn list (st₀ .fonts) ws₀) s (standing st₀ m₀ ws₀ o₀)
   known-over h = sym (stays (finding list st₀ ws₀) s (v .turns) (standing st m ws o) (omega arith)) ∙ v .runs
 
@@ -95,5 +82,3 @@ module _ (list s : List ℕ) (st₀ : State) (m₀ : Mark) (ws₀ o₀ : List �
 
     pub known-next : length t ≡ length ws → length q ≡ length o → Known list s st₀ m₀ ws₀ o₀ x n t q
     known-next i j = goes-on (v .turns) (v .few) (v .runs) i j
-
-pub ruleset passing = (known-first, turn-less, known-scratch, known-ready, known-row, known-out, known-over, known-next, needs)
