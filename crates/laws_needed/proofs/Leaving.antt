@@ -9,7 +9,7 @@ use lib.ListN.{length, drop}
 use Rattle.rules.specs.Bytes.{if_then_else_, origin}
 use Rattle.rules.specs.Drawing.{wayOf}
 use Rattle.rules.specs.Act.{Shape, Axis, across, down, Act, glyph, index, to, by, page, font, size, colour, break, space, draw, device, resolution, init, file, mount, plain, raw, stop}
-use Rattle.rules.specs.State.{Spot, corner, get, put, item, itemAt, withFont, recorded, indexed, mayGo, Env, setSpot, setPhase, Glyph, Item, Step, refused, went, before, andThen, onPage, inBody, due, effect, act, run, stopped}
+use Rattle.rules.specs.State.{Spot, corner, get, put, item, itemAt, withFont, recorded, indexed, mayGo, spotAfter, filled, Env, setSpot, setFillPaint, setPhase, Glyph, Item, Step, refused, went, before, andThen, onPage, inBody, due, effect, act, run, stopped}
 use Rattle.laws.proofs.Cases.{on, no, and-left, if-on, drop-front}
 use Rattle.laws_read.proofs.Placed.{didGo}
 use Rattle.laws_moves.specs.Sparing.{placed, mute, kindOf}
@@ -163,7 +163,7 @@ draw-marks : (s : Shape) (ns : List ℕ) (e : Env) → Marks entrySpots (e .spot
 unfolding act
 draw-marks s ns e =
     gate (Marks entrySpots (e .spot)) (onPage e) (effect e (draw s ns)) 7
-    (λ h. gate (Marks entrySpots (e .spot)) (mayGo (e .spot) (wayOf s ns)) (went _ [] (itemAt e (draw s ns) ∷ [])) 10 (λ k. refl) tt) tt
+    (λ h. gate (Marks entrySpots (e .spot)) (mayGo (e .spot) (wayOf s ns)) (went (setFillPaint (setSpot e (spotAfter (e .spot) (wayOf s ns))) (filled e s ns)) [] (itemAt e (draw s ns) ∷ [])) 10 (λ k. refl) tt) tt
 
 raw-marks : (t : List ℕ) (e : Env) → Marks entrySpots (e .spot) (act e (raw t))
 unfolding act
