@@ -325,6 +325,6 @@ pub record NoRoom : Type 0 where
 pub record Judge : Type 0 where
   pub accepted : (s list : List ℕ) (n m pages len : ℕ) → JudgeCall s list (J.Accepted n m pages len)
       → (w : Widths) × (end : Env) × (gs : List Glyph) × (xs : List Item) × SoundList list w × (a : Allowed s w end gs xs) × (n ≡ length gs) × (m ≡ length xs) × (pages ≡ end .ordinal)
-        × (((len ≡ length (houseSpelling w (a .commands))) × (len ≤ 16_777_216)) ⊎ ((len ≡ 16_777_217) × (16_777_216 < length (houseSpelling w (a .commands)))))
+      × (((len ≡ length (houseSpelling w (a .commands))) × (len ≤ 16_777_216)) ⊎ ((len ≡ 16_777_217) × (16_777_216 < length (houseSpelling w (a .commands)))))
   pub refused : (s list : List ℕ) (number at : ℕ) → JudgeCall s list (J.Refused number at)
       → (rs : List Record) (es : List Entry) (r : Reading) (rs′ : List Record) (es′ : List Entry) → ReadCall s list rs es r rs′ es′ → r .answer ≡ R.Refused number at
