@@ -17,6 +17,9 @@ use Rattle.rules.specs.Record.{shown, colourOf, schemeLetter}
 use Rattle.rules.specs.Widths.{WidthList, unsound, sound, widthList}
 use Rattle.rules.specs.Answers.{streamMost, isOver}
 use Rattle.laws.proofs.Cases.{on, no as impossible}
+use Rattle.scan_letters.specs.declared.Parts.{Parts}
+use Rattle.scan_letters.specs.declared.Parts.the-variants as P
+use Rattle.scan_letters.specs.Selected.{byteOf, partsOf}
 use Rattle.widths.specs.declared.ListAnswer.{ListAnswer}
 use Rattle.widths.specs.declared.ListAnswer.the-variants as L
 use Rattle.widths.specs.Table.{listOf}
@@ -111,22 +114,56 @@ module _ (s list : List ℕ) (r : State) (ws : List ℕ) where
 paint-is : (c : Colour) → schemeLetter (schemeAt (c .scheme)) ≡ c .scheme → c ≡ colourOf (paintOf c)
 paint-is c h = sym (ap (λ (k : ℕ). record { scheme = k; parts = c .parts }) h)
 
-module _ (c : Colour) where
-  pub colour-kept : (((eqb (c .scheme) 99 || eqb (c .scheme) 103) || eqb (c .scheme) 107) || eqb (c .scheme) 114) ≡ true → c ≡ colourOf (paintOf c)
-  colour-kept h =
-      on (eqb (c .scheme) 99) (λ a. paint-is c (rw a (sym (eqb-true (c .scheme) 99 a))))
-      (λ a. on (eqb (c .scheme) 103) (λ b. paint-is c (rw (a, b) (sym (eqb-true (c .scheme) 103 b))))
-      (λ b. on (eqb (c .scheme) 107) (λ d. paint-is c (rw (a, b, d) (sym (eqb-true (c .scheme) 107 d))))
-      (λ d. on (eqb (c .scheme) 114) (λ e. paint-is c (rw (a, b, d, e) (sym (eqb-true (c .scheme) 114 e))))
-      (λ e. impossible (rw (a, b, d, e) at h)))))
+-- a scheme's letter
+abbrev Known : Parts → Type 0
+Known P.Zero = Unit {0}
+Known P.One = Unit {0}
+Known P.Three = Unit {0}
+Known P.Four = Unit {0}
+Known P.Unknown = ⊥
 
-  pub colour-else : (((eqb (c .scheme) 99 || eqb (c .scheme) 103) || eqb (c .scheme) 107) || eqb (c .scheme) 114) ≡ false → record { scheme = 100; parts = c .parts } ≡ colourOf (paintOf c)
-  colour-else h =
-      on (eqb (c .scheme) 99) (λ a. impossible (sym (rw a at h)))
-      (λ a. on (eqb (c .scheme) 103) (λ b. impossible (sym (rw (a, b) at h)))
-      (λ b. on (eqb (c .scheme) 107) (λ d. impossible (sym (rw (a, b, d) at h)))
-      (λ d. on (eqb (c .scheme) 114) (λ e. impossible (sym (rw (a, b, d, e) at h)))
-      (λ e. rw (a, b, d, e)))))
+module _ (c : Colour) where
+  paint-at : (k : ℕ) → eqb (c .scheme) k ≡ true → schemeLetter (schemeAt k) ≡ k → c ≡ colourOf (paintOf c)
+  paint-at k e h = paint-is c (subst (λ (n : ℕ). schemeLetter (schemeAt n) ≡ n) (sym (eqb-true (c .scheme) k e)) h)
+
+  known-kept : Known (partsOf (byteOf (c .scheme))) → c ≡ colourOf (paintOf c)
+  known-kept h =
+      on (eqb (c .scheme) 99) (λ a. paint-at 99 a refl)
+      (λ a. on (eqb (c .scheme) 100) (λ b. paint-at 100 b refl)
+      (λ b. on (eqb (c .scheme) 103) (λ d. paint-at 103 d refl)
+      (λ d. on (eqb (c .scheme) 107) (λ e. paint-at 107 e refl)
+      (λ e. on (eqb (c .scheme) 114) (λ f. paint-at 114 f refl)
+      (λ f. on (ltb (c .scheme) 256) (λ g. absurd (rw (g, a, b, d, e, f) at h)) (λ g. absurd (rw g at h)))))))
+
+  module _ (k : ℕ) (p : Parts) (e : k ≡ byteOf (c .scheme)) (q : p ≡ partsOf k) where
+    parts-is : p ≡ partsOf (byteOf (c .scheme))
+    parts-is = q ∙ ap partsOf e
+
+    kept-where : (x : Parts) → p ≡ x → Known x → c ≡ colourOf (paintOf c)
+    kept-where x h y = known-kept (subst Known (sym h ∙ parts-is) y)
+
+    pub colour-zero : p ≡ P.Zero → c ≡ colourOf (paintOf c)
+    colour-zero h = kept-where P.Zero h tt
+
+    pub colour-one : p ≡ P.One → c ≡ colourOf (paintOf c)
+    colour-one h = kept-where P.One h tt
+
+    pub colour-three : p ≡ P.Three → c ≡ colourOf (paintOf c)
+    colour-three h = kept-where P.Three h tt
+
+    pub colour-four : p ≡ P.Four → c ≡ colourOf (paintOf c)
+    colour-four h = kept-where P.Four h tt
+
+    pub colour-else : p ≡ P.Unknown → record { scheme = 100; parts = c .parts } ≡ colourOf (paintOf c)
+    colour-else h =
+        on (eqb (c .scheme) 99) (λ a. none 99 a tt)
+        (λ a. on (eqb (c .scheme) 103) (λ b. none 103 b tt)
+        (λ b. on (eqb (c .scheme) 107) (λ d. none 107 d tt)
+        (λ d. on (eqb (c .scheme) 114) (λ f. none 114 f tt)
+        (λ f. rw (a, b, d, f)))))
+      where
+        none : (n : ℕ) → eqb (c .scheme) n ≡ true → Known (partsOf (byteOf n)) → record { scheme = 100; parts = c .parts } ≡ colourOf (paintOf c)
+        none n x y = absurd (subst Known (sym parts-is ∙ h) (subst (λ (m : ℕ). Known (partsOf (byteOf m))) (sym (eqb-true (c .scheme) n x)) y))
 
 module _ (st : State) where
   pub h-shown : EnvFits (st .at) (st .env) → st .env .h < 2 * origin
@@ -142,4 +179,4 @@ module _ (st : State) where
   pub answer-no : (a b : Colour) → (st .refusal ≡ 0 → ⊥) → a ≡ noColour → b ≡ noColour → record { answer = R.Refused (st .refusal) (st .at); glyph = a; fill = b } ≡ readAnswerOf st
   answer-no a b z x y = rw (ne-eqb (st .refusal) 0 z, x, y)
 
-pub ruleset planning = (env-is, begin-is, refused-is, again-refused, again-open, again-full, again-fills, start-long, start-wide, start-unsound, start-sound, colour-kept, colour-else, h-shown, v-shown, answer-yes, answer-no, needs)
+pub ruleset planning = (env-is, begin-is, refused-is, again-refused, again-open, again-full, again-fills, start-long, start-wide, start-unsound, start-sound, colour-zero, colour-one, colour-three, colour-four, colour-else, h-shown, v-shown, answer-yes, answer-no, needs)

@@ -4,6 +4,7 @@ use read_model::State;
 use rules::Colour;
 use rules::ReadAnswer;
 use rules::Reading;
+use scan_letters::Parts;
 use widths::ListAnswer;
 ghost use mathlib.Core.Path.{_≡_};
 ghost use Rattle.rules.specs.Record.{colourOf};
@@ -132,13 +133,18 @@ pub fn again(ws: &mut [u32], a: State, n: usize, rmax: usize, emax: usize, fill:
 fn colour_out(c: Colour) -> Colour
     ensures { λ r. ⌜ r ≡ colourOf (paintOf c) ⌝ }
 {
-    let k = c.scheme;
-    if (k == 99) | (k == 103) | (k == 107) | (k == 114) {
-        return c;
+    let k = scan_letters::byte_of(c.scheme);
+    match scan_letters::parts_of(k) {
+        Parts::Zero => c,
+        Parts::One => c,
+        Parts::Three => c,
+        Parts::Four => c,
+        Parts::Unknown => {
+            let mut d = c;
+            d.scheme = 100;
+            d
+        }
     }
-    let mut d = c;
-    d.scheme = 100;
-    d
 }
 
 // The answer where the last pass ended.

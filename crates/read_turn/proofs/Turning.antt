@@ -3,7 +3,7 @@ use Prim.Native.Nat.{ℕ, _+_, _<_, _≤_}
 use native.Mathlib.Omega.{arith}
 use mathlib.Core.Bool.{Bool, true, false}
 use mathlib.Core.List.{List}
-use mathlib.Core.Path.{_≡_}
+use mathlib.Core.Path.{_≡_, ap, subst, _∙_}
 use lib.ListN.{length, getD}
 use borrow.Author.Needs.{needs}
 use borrow.Author.Tests.{ne-eqb}
@@ -32,16 +32,19 @@ here-some n st r = omega (arith, r .ends, r .some)
 pub turned-is : (s ws : List ℕ) (st : State) (c : Command) (d : Did) (next : ℕ) (t : Turned) → d ≡ didAt s ws (st .unitwidth) (st .env) (st .at) c → next ≡ nextOf c → t ≡ doneOf (length s) st next d → t ≡ turnOn s ws st c
 turned-is s ws st c d next t p q h = rw (h, q, p)
 
-pub command-turned : (s ws : List ℕ) (st : State) (c : Command) (t : Turned) → c ≡ commandAt s (st .at) → t ≡ turnOn s ws st c → t ≡ turnOn s ws st (commandAt s (st .at))
-command-turned s ws st c t g h = rw (← g) h
-
-pub command-mounts : (find : List ℕ → ℕ) (s ws : List ℕ) (st : State) (c : Command) (r : List ℕ) → c ≡ commandAt s (st .at) → r ≡ scratchAfter find s ws (st .env) c → r ≡ scratchAfter find s ws (st .env) (commandAt s (st .at))
-command-mounts find s ws st c r g h = rw (← g) h
-
--- ---- a turn at the state's place
+-- ---- at the place of the state
 
 pub here-at : (n at : ℕ) (st : State) → at ≡ st .at → Ready n st → at < n
 here-at n at st i r = omega (arith, here-some n st r)
+
+pub command-here : (n at : ℕ) (st : State) (c : Command) → at ≡ st .at → CommandIn at n c → CommandIn (st .at) n c
+command-here n at st c i h = subst (λ (k : ℕ). CommandIn k n c) i h
+
+pub command-turned : (s ws : List ℕ) (at : ℕ) (st : State) (c : Command) (t : Turned) → at ≡ st .at → c ≡ commandAt s at → t ≡ turnOn s ws st c → t ≡ turnOn s ws st (commandAt s (st .at))
+command-turned s ws at st c t i g h = h ∙ ap (turnOn s ws st) (g ∙ ap (commandAt s) i)
+
+pub command-mounts : (find : List ℕ → ℕ) (s ws : List ℕ) (at : ℕ) (st : State) (c : Command) (r : List ℕ) → at ≡ st .at → c ≡ commandAt s at → r ≡ scratchAfter find s ws (st .env) c → r ≡ scratchAfter find s ws (st .env) (commandAt s (st .at))
+command-mounts find s ws at st c r i g h = h ∙ ap (scratchAfter find s ws (st .env)) (g ∙ ap (commandAt s) i)
 
 module _ (find : List ℕ → ℕ) (s ws : List ℕ) (st : State) (at b : ℕ) (w : Bool) (i : at ≡ st .at) (e : b ≡ getD s at 0) (p : w ≡ isWhite b) where
   pub white-turn : (t : Turned) → w ≡ true → t ≡ skipped (length s) st (at + 1) → t ≡ turnOf s ws st
@@ -74,4 +77,4 @@ comment-ends s at next h e = rw e (comment-in s at h)
 
 pub ruleset turn-laws = (here-at, white-turn, white-keeps, comment-turn, comment-keeps, other-turn, other-mounts, comment-ends, needs)
 
-pub ruleset commanding = (command-within, here-some, next-most, turned-is, command-turned, command-mounts, needs)
+pub ruleset commanding = (command-within, here-at, command-here, next-most, turned-is, command-turned, command-mounts, needs)

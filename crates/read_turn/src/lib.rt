@@ -41,11 +41,10 @@ pub fn turned(s: &[u8], ws: &[u32], st: State, c: Command) -> Turned
 }
 
 // One command.
-fn command_turn(ws: &mut [u32], s: &[u8], list: &[u8], st: State) -> Turned
-    requires { ⌜ Scratch (now ws) × Ready (length (now s)) st ⌝ }
+fn command_turn(ws: &mut [u32], s: &[u8], list: &[u8], at: usize, st: State) -> Turned
+    requires { ⌜ (at ≡ st .at) × Scratch (now ws) × Ready (length (now s)) st ⌝ }
     ensures { λ r. ⌜ (r ≡ turnOn (now (s .entry)) (now (ws .entry)) st (commandAt (now (s .entry)) (st .at))) × (now (ws .exit) ≡ scratchAfter (findIn (now (list .entry)) (st .fonts) (now (ws .entry))) (now (s .entry)) (now (ws .entry)) (st .env) (commandAt (now (s .entry)) (st .at))) ⌝ }
 {
-    let at = st.at;
     let e = st.env;
     let c = command_at(s, at);
     let r = turned(s, ws, st, c);
@@ -66,7 +65,7 @@ fn turn_at(ws: &mut [u32], s: &[u8], list: &[u8], at: usize, st: State) -> Turne
         let next = scan_lex::line_end(s, at + 1);
         return read_count::skipped(s.len(), st, next);
     }
-    command_turn(ws, s, list, st)
+    command_turn(ws, s, list, at, st)
 }
 
 // A turn where the reader stands: the struct is taken apart.

@@ -4,26 +4,16 @@ use native.Mathlib.Omega.{arith}
 use mathlib.Core.List.{List}
 use mathlib.Core.Path.{_≡_, refl, sym, ap, _∙_}
 use borrow.Author.Needs.{needs}
-use borrow.Author.Tests.{lt-ltb, le-ltb}
 use lib.ListN.{length}
 use Rattle.name.specs.Part.{partOf}
 use Rattle.scan_arguments.specs.declared.One.{One}
 use Rattle.scan_arguments.specs.declared.One.the-variants as A
 use Rattle.scan_arguments.specs.At.{oneAt}
 use Rattle.respell_model.specs.Sheet.{Sheet, put, putAll}
-use Rattle.respell_model.specs.Lines.{signedArg, nameArg, argsFrom, byteOf}
+use Rattle.respell_model.specs.Lines.{signedArg, nameArg, argsFrom}
 use Rattle.respell_model.proofs.Sheets.{putAll-append}
 use Rattle.respell_bytes.proofs.Putting.{sheet, put-kept, all-kept}
 use Rattle.respell_arguments.proofs.Behind.{put-then}
-
--- ---- a letter as a byte
-
-module _ (b : ℕ) where
-  pub byte-in : b < 256 → b ≡ byteOf b
-  byte-in h = rw (lt-ltb b 256 h)
-
-  pub byte-out : 256 ≤ b → 0 ≡ byteOf b
-  byte-out h = rw (le-ltb b 256 h)
 
 -- ---- a name
 
@@ -78,4 +68,4 @@ module _ (s : List ℕ) (from n : ℕ) (o₀ : List ℕ) (at : ℕ) (o : List �
       let e : k ≡ 0 = omega arith in
       sym (v .whole ∙ ap (λ (j : ℕ). putAll (argsFrom j s i) (sheet o x)) e ∙ args-none s i (sheet o x))
 
-pub ruleset arguments = (put-then, put-name, byte-in, byte-out, args-start, args-size, args-stop, args-more, args-over, put-kept, all-kept, needs)
+pub ruleset arguments = (put-then, put-name, args-start, args-size, args-stop, args-more, args-over, put-kept, all-kept, needs)

@@ -5,7 +5,7 @@ use scan_arguments::One;
 ghost use mathlib.Core.Path.{_≡_};
 ghost use mathlib.Core.List.{_∷_};
 ghost use Rattle.respell_model.specs.Sheet.{putAll};
-ghost use Rattle.respell_model.specs.Lines.{signedArg, plainArg, nameArg, argsFrom, byteOf};
+ghost use Rattle.respell_model.specs.Lines.{signedArg, plainArg, nameArg, argsFrom};
 
 // A number that is moved up.
 fn put_signed_arg(out: &mut [u8], at: usize, n: u32) -> usize
@@ -66,11 +66,4 @@ pub fn put_plain_line(out: &mut [u8], at: usize, letter: u8, n: u32) -> usize
 {
     let a = respell_bytes::put(out, at, letter);
     put_plain_arg(out, a, n)
-}
-
-// A letter as a byte.
-pub fn byte_of(k: u32) -> u8
-    ensures { λ r. ⌜ r ≡ byteOf k ⌝ }
-{
-    if k < 256 { k as u8 } else { 0 }
 }

@@ -16,13 +16,13 @@ use Rattle.name.specs.Part.{partOf}
 use Rattle.scan_command.specs.declared.Command.{Command}
 use Rattle.scan_command.specs.declared.Command.the-variants as C
 use Rattle.scan_command.proofs.Command.{enum, the-type}
-use Rattle.scan_letters.specs.Selected.{controlOf}
+use Rattle.scan_letters.specs.Selected.{byteOf, controlOf}
 use Rattle.scan_letters.specs.declared.Control as L
 use Rattle.scan_letters.specs.declared.Control.the-variants as X
 use Rattle.scan_letters.proofs.Control as N
 use Rattle.scan_lex.specs.At.{runEnd}
 use Rattle.respell_model.specs.Sheet.{put, putAll}
-use Rattle.respell_model.specs.Lines.{plainArg, nameArg, argsFrom, plainCount, byteOf, behindWord, textAt, rawArg, lineOf}
+use Rattle.respell_model.specs.Lines.{plainArg, nameArg, argsFrom, plainCount, behindWord, textAt, rawArg, lineOf}
 use Rattle.respell_bytes.proofs.Putting.{sheet, put-kept, all-kept}
 use Rattle.respell_arguments.proofs.Behind.{behind-one, behind-all, only-one, put-one, put-nothing, by-line}
 use Rattle.respell_control.specs.Control.{Control, device, resolution, init, file, mount, plain, raw, stop}

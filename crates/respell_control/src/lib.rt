@@ -115,7 +115,7 @@ pub fn put_control(out: &mut [u8], at: usize, s: &[u8], place: usize, c: Command
             ..
         } => put_mount(out, at, position, s, p, len),
         Command::Plain { letter, .. } => {
-            let b = respell_arguments::byte_of(letter);
+            let b = scan_letters::byte_of(letter);
             put_numbered(out, at, b, s, place, plain_count(b))
         }
         Command::Raw { next } => put_text(out, at, s, place, next),

@@ -15,7 +15,7 @@ use Rattle.rules.specs.Bytes.{isSpace}
 use Rattle.scan_command.specs.declared.Command.{Command}
 use Rattle.scan_command.specs.declared.Command.the-variants as C
 use Rattle.scan_command.proofs.Command.{enum, the-type}
-use Rattle.scan_letters.specs.Selected.{drawingOf, partsOf}
+use Rattle.scan_letters.specs.Selected.{byteOf, drawingOf, partsOf}
 use Rattle.scan_letters.specs.declared.Drawing as W
 use Rattle.scan_letters.specs.declared.Parts.{Parts}
 use Rattle.scan_letters.specs.declared.Parts.the-variants as P
@@ -23,7 +23,7 @@ use Rattle.scan_lex.specs.At.{runEnd}
 use Rattle.scan_lex.proofs.Runs.{run-within}
 use Rattle.read_model.specs.Fits.{CommandIn}
 use Rattle.respell_model.specs.Sheet.{put, putAll}
-use Rattle.respell_model.specs.Lines.{plainArg, argsFrom, threeArgs, partArgs, drawCount, byteOf, behindLetter, lineOf}
+use Rattle.respell_model.specs.Lines.{plainArg, argsFrom, threeArgs, partArgs, drawCount, behindLetter, lineOf}
 use Rattle.respell_bytes.proofs.Putting.{sheet, put-kept, all-kept}
 use Rattle.respell_arguments.proofs.Behind.{behind-all, put-then, put-nothing, by-line}
 use Rattle.respell_drawing.specs.Drawing.{Drawing, shape, gray, fill}

@@ -7,8 +7,8 @@ ghost use Prim.Native.Nat.{_<_, _≤_};
 ghost use lib.ListN.{length};
 ghost use Rattle.read_model.specs.Fits.{CommandIn};
 ghost use Rattle.respell_model.specs.Sheet.{putAll};
-ghost use Rattle.respell_model.specs.Lines.{signedArg, argsFrom, threeArgs, partArgs, drawCount, byteOf, behindLetter, lineOf};
-ghost use Rattle.scan_letters.specs.Selected.{drawingOf, partsOf};
+ghost use Rattle.respell_model.specs.Lines.{signedArg, argsFrom, threeArgs, partArgs, drawCount, behindLetter, lineOf};
+ghost use Rattle.scan_letters.specs.Selected.{byteOf, drawingOf, partsOf};
 ghost use Rattle.respell_drawing.specs.Drawing.{Drawing};
 
 fn put_three(out: &mut [u8], at: usize, a: u32, b: u32, c: u32) -> usize
@@ -48,7 +48,7 @@ pub fn put_colour(
 ) -> usize
     ensures { λ r. ⌜ record { bytes = now (out .exit); at = r } ≡ putAll (letter ∷ byteOf scheme ∷ partArgs (partsOf (byteOf scheme)) a b c d) (record { bytes = now (out .entry); at = at }) ⌝ }
 {
-    let k = respell_arguments::byte_of(scheme);
+    let k = scan_letters::byte_of(scheme);
     let x = respell_bytes::put(out, at, letter);
     let y = respell_bytes::put(out, x, k);
     put_parts(out, y, scan_letters::parts_of(k), a, b, c, d)
@@ -100,7 +100,7 @@ fn put_shape(out: &mut [u8], at: usize, s: &[u8], place: usize, letter: u32, ter
     requires { ⌜ (place < length (now s)) × (length (now s) ≤ 16777216) × (terms < 65) ⌝ }
     ensures { λ r. ⌜ record { bytes = now (out .exit); at = r } ≡ putAll (68 ∷ byteOf letter ∷ argsFrom (drawCount (drawingOf (byteOf letter)) terms) (now (s .entry)) (behindLetter (now (s .entry)) place)) (record { bytes = now (out .entry); at = at }) ⌝ }
 {
-    let k = respell_arguments::byte_of(letter);
+    let k = scan_letters::byte_of(letter);
     let a = respell_bytes::put(out, at, 68);
     let b = respell_bytes::put(out, a, k);
     let from = behind_letter(s, place);

@@ -26,7 +26,7 @@ use Rattle.laws_scan.proofs.Fair.{NumsAre, counted, command-good}
 use Rattle.laws_scan.proofs.Walk.{cons-at}
 use Rattle.scan_command.specs.View.{part, actOf}
 use Rattle.scan_command.proofs.Shift.{shifted, integers-shift, many-shift}
-use Rattle.scan_letters.specs.Selected.{partsOf}
+use Rattle.scan_letters.specs.Selected.{byteOf, partsOf}
 use Rattle.scan_letters.specs.declared.Parts.{Parts}
 use Rattle.scan_letters.specs.declared.Parts.the-variants as P
 use Rattle.scan_arguments.specs.declared.One.the-variants as A
@@ -38,7 +38,7 @@ use Rattle.scan_arguments.proofs.Chains.{behind, ints, thenAt, ints-more, one-i
 use Rattle.scan_arguments.proofs.Pairs.{many, many-none, many-more}
 use Rattle.respell_model.proofs.Sheets.{signed-near}
 use Rattle.respell_model.specs.Sheet.{small}
-use Rattle.respell_model.specs.Lines.{signedArg, plainArg, argsFrom, threeArgs, partArgs, byteOf, behindLetter, behindWord, textAt, rawArg, lineOf}
+use Rattle.respell_model.specs.Lines.{signedArg, plainArg, argsFrom, threeArgs, partArgs, behindLetter, behindWord, textAt, rawArg, lineOf}
 
 -- ---- numbers
 

@@ -8,7 +8,7 @@ use Rattle.rules.specs.Bytes.{if_then_else_, bytes, is, isSpace, isNotWhite}
 use Rattle.rules.specs.House.{decimal}
 use Rattle.scan_command.specs.declared.Command.{Command}
 use Rattle.scan_command.specs.declared.Command.the-variants as C
-use Rattle.scan_letters.specs.Selected.{drawingOf, partsOf, controlOf}
+use Rattle.scan_letters.specs.Selected.{byteOf, drawingOf, partsOf, controlOf}
 use Rattle.scan_letters.specs.declared.Drawing.{Drawing}
 use Rattle.scan_letters.specs.declared.Drawing.the-variants as D
 use Rattle.scan_letters.specs.declared.Parts.{Parts}
@@ -78,10 +78,6 @@ plainCount (X.Number lo hi) = 1
 plainCount X.Stop = 0
 plainCount X.Text = 0
 plainCount X.Unknown = 0
-
--- a letter as a byte
-abbrev pub byteOf : ℕ → ℕ
-byteOf k = if ltb k 256 then k else 0
 
 -- ---- places in a command that begins at a place
 

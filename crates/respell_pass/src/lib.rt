@@ -38,7 +38,7 @@ fn turn_at(
     if at < next {
         return skipped(s.len(), st, next, m);
     }
-    respell_turn::command_turn(out, ws, s, list, st, m)
+    respell_turn::command_turn(out, ws, s, list, at, st, m)
 }
 
 // A turn where the reader stands: the struct is taken apart.

@@ -13,7 +13,7 @@ use Rattle.read_model.specs.declared.Did.{Did}
 use Rattle.read_model.specs.declared.State.{State}
 use Rattle.read_model.specs.declared.Turned.{Turned}
 use Rattle.read_model.specs.Turns.{didAt, nextOf, doneOf, turnOn}
-use Rattle.read_turn.proofs.Turning.{command-within, here-some, command-mounts}
+use Rattle.read_turn.proofs.Turning.{command-within, here-at, command-here, command-mounts}
 use Rattle.respell_model.specs.declared.Mark.{Mark}
 use Rattle.respell_model.specs.Sheet.{putAll}
 use Rattle.respell_model.specs.Command.{mannerOf, penH, penV, spelledAt}
@@ -51,7 +51,10 @@ module _ (s ws : List ℕ) (st next : State) (c : Command) where
 pub turned-state : (s ws : List ℕ) (st : State) (c : Command) (x : Turned) → x ≡ turnOn s ws st c → x .state ≡ turnOn s ws st c .state
 turned-state s ws st c x e = rw e
 
-module _ (s ws : List ℕ) (st : State) (c : Command) (g : c ≡ commandAt s (st .at)) where
+module _ (s ws : List ℕ) (at : ℕ) (st : State) (c : Command) (i : at ≡ st .at) (k : c ≡ commandAt s at) where
+  g : c ≡ commandAt s (st .at)
+  g = k ∙ ap (commandAt s) i
+
   pub command-state : (x : Turned) → x ≡ turnOn s ws st c → x .state ≡ turnOn s ws st (commandAt s (st .at)) .state
   command-state x e = rw (← g, e)
 
@@ -63,4 +66,4 @@ module _ (s ws : List ℕ) (st : State) (c : Command) (g : c ≡ commandAt s (st
 
 pub ruleset writing = (none-refused, written-mark, written-bytes, refused-mark, refused-bytes, all-kept, needs)
 
-pub ruleset commanding = (command-within, here-some, turned-state, command-state, command-mark, command-bytes, command-mounts, needs)
+pub ruleset commanding = (command-within, here-at, command-here, turned-state, command-state, command-mark, command-bytes, command-mounts, needs)

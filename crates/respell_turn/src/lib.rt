@@ -40,13 +40,13 @@ pub fn command_turn(
     ws: &mut [u32],
     s: &[u8],
     list: &[u8],
+    at: usize,
     st: State,
     m: Mark,
 ) -> Writing
-    requires { ⌜ Scratch (now ws) × Ready (length (now s)) st ⌝ }
+    requires { ⌜ (at ≡ st .at) × Scratch (now ws) × Ready (length (now s)) st ⌝ }
     ensures { λ r. ⌜ (r .state ≡ turnOn (now (s .entry)) (now (ws .entry)) st (commandAt (now (s .entry)) (st .at)) .state) × (r .mark ≡ markOn (now (s .entry)) (now (ws .entry)) st (r .state) (commandAt (now (s .entry)) (st .at)) (now (out .entry)) m) × (now (out .exit) ≡ sheetOn (now (s .entry)) (now (ws .entry)) st (r .state) (commandAt (now (s .entry)) (st .at)) (now (out .entry)) m .bytes) × (now (ws .exit) ≡ scratchAfter (findIn (now (list .entry)) (st .fonts) (now (ws .entry))) (now (s .entry)) (now (ws .entry)) (st .env) (commandAt (now (s .entry)) (st .at))) ⌝ }
 {
-    let at = st.at;
     let e = st.env;
     let c = read_turn::command_at(s, at);
     let x = read_turn::turned(s, ws, st, c);

@@ -1,11 +1,11 @@
 -- The arms of the matches over letters: the answer of each, in the form in which `search` applies it.
-use Prim.Native.Nat.{ℕ}
+use Prim.Native.Nat.{ℕ, _≤_, _<_}
 use mathlib.Core.List.{List, [], _∷_}
 use mathlib.Core.Logic.{_⊎_, inl, inr}
 use mathlib.Core.Path.{_≡_}
 use borrow.Author.Needs.{needs}
-use borrow.Author.Tests.{ne-eqb}
-use Rattle.scan_letters.specs.Selected.{drawingOf, partsOf, controlOf}
+use borrow.Author.Tests.{lt-ltb, le-ltb, ne-eqb}
+use Rattle.scan_letters.specs.Selected.{byteOf, drawingOf, partsOf, controlOf}
 use Rattle.scan_letters.specs.declared.Drawing.{Drawing}
 use Rattle.scan_letters.specs.declared.Drawing.the-variants as D
 use Rattle.scan_letters.specs.declared.Parts.{Parts}
@@ -13,6 +13,14 @@ use Rattle.scan_letters.specs.declared.Parts.the-variants as P
 use Rattle.scan_letters.specs.declared.Control.{Control}
 use Rattle.scan_letters.specs.declared.Control.the-variants as C
 use Rattle.scan_letters.proofs.Letters.{UnlikeAll}
+
+-- a letter as a byte
+module _ (k : ℕ) where
+  pub byte-in : k < 256 → k ≡ byteOf k
+  byte-in h = rw (lt-ltb k 256 h)
+
+  pub byte-out : 256 ≤ k → 0 ≡ byteOf k
+  byte-out h = rw (le-ltb k 256 h)
 
 -- an arm with one, two or three letters
 module _ {R : Type 0} (f : ℕ → R) (b : ℕ) (r : R) where
@@ -97,4 +105,4 @@ no-control b n =
       ne-eqb b 88 (n .1),
     )
 
-pub ruleset arms = (drawing-one, drawing-two, drawing-three, no-drawing, parts-one, parts-two, no-parts, control-one, control-two, no-control, needs)
+pub ruleset arms = (byte-in, byte-out, drawing-one, drawing-two, drawing-three, no-drawing, parts-one, parts-two, no-parts, control-one, control-two, no-control, needs)

@@ -2,6 +2,7 @@
 -- where commands are scanned (`scan_drawings`, `scan_colours`, `scan_controls`) and spelt (`respell_model`).
 use Prim.Native.Nat.{ℕ, _+_, _-_}
 use mathlib.Core.Option.{Option, none, some}
+use lib.Dec.{ltb}
 use Rattle.rules.specs.Bytes.{if_then_else_, is, most, origin}
 use Rattle.rules.specs.Act.{Scheme, cmy, default, gray, cmyk, rgb, Shape, line, arc, circle, solidCircle, ellipse, solidEllipse, polygon, solidPolygon, spline, thickness, grayFill, colourFill}
 use Rattle.rules.specs.Letters.{schemeOf}
@@ -13,6 +14,10 @@ use Rattle.scan_letters.specs.declared.Parts.{Parts}
 use Rattle.scan_letters.specs.declared.Parts.the-variants as P
 use Rattle.scan_letters.specs.declared.Control.{Control}
 use Rattle.scan_letters.specs.declared.Control.the-variants as C
+
+-- a letter that is held as a number, as a byte; what is no byte is 0, which is no letter
+abbrev pub byteOf : ℕ → ℕ
+byteOf k = if ltb k 256 then k else 0
 
 -- ---- the letters of `D`: the columns "arguments" and "motion"
 

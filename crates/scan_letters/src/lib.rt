@@ -2,7 +2,7 @@
 // of a scheme, one for those of `x`. Scanner and rewriter ask here, so a letter's arguments, their limits and its motion are said once.
 // Limits are of numbers that are moved up by 100,000,000.
 ghost use mathlib.Core.Path.{_≡_};
-ghost use Rattle.scan_letters.specs.Selected.{drawingOf, partsOf, controlOf};
+ghost use Rattle.scan_letters.specs.Selected.{byteOf, drawingOf, partsOf, controlOf};
 
 // The column "motion" of a drawing that has one number or two: +h, +v; +h, 0; none.
 pub enum Motion {
@@ -63,6 +63,13 @@ pub enum Control {
     Text,
     // no letter of a control
     Unknown,
+}
+
+// A letter that is held as a number, as a byte.
+pub fn byte_of(k: u32) -> u8
+    ensures { λ r. ⌜ r ≡ byteOf k ⌝ }
+{
+    if k < 256 { k as u8 } else { 0 }
 }
 
 // The letters of `D`.
