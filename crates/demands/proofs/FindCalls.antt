@@ -29,6 +29,7 @@ use Rattle.laws_answers.proofs.Numbers.{numbers}
 use Rattle.laws_offsets.specs.Offsets.{FindOffset, OrRoom, Said}
 use Rattle.laws_offsets.proofs.Offsets.{offsets}
 use Rattle.laws_offsets.proofs.ByNumber.{by-number}
+use Rattle.laws_offsets.proofs.Exactly.{exactly}
 use Rattle.demands.specs.Demands.{Allowed, Accepted, recorded, set, WellFormed, ListOf, FoundAll, SetBy, none, c-or-C, t-or-u, two-digits, Motion, to-place, by-way, SetOtherwise, ended, same, otherwise, moved, moved₂, FiveForms, SameList, Alike}
 use Rattle.demands.proofs.Allowed.{ReadsTo, allowed-reads, allowed-accepted, commands-are, Stream, read-allowed}
 use Rattle.demands.proofs.ReadCalls.{take-over, drop-over, length-over, glyphs-seen, rows-stand}
@@ -172,6 +173,9 @@ module _ (s list q : List ℕ) (rs : List Record) (hs : List ℕ) (r : Finding) 
       go (notFound n at) k a b = (ap length a, ap length b)
       go (found gs is) k a b = (ap length a ∙ length-over (map recordOf gs) rs (omega (arith, length-map gs recordOf, k .1)), ap length b ∙ length-over is hs (k .2))
 
+  pub refuses : (number at : ℕ) → FindOffset s list q number at → r ≡ F.Refused number at
+  refuses number at h = c .answer ∙ ap findingOf (exactly .finder (length rs) (length hs) s list q number at h)
+
   -- what the rules found is in the rows
   found-all : (gs : List Glyph) (is : List ℕ) (f : Finds s list q gs is) → findInto (length rs) (length hs) s list q ≡ found (f .rows) is → FoundAll s rs hs gs is r rs′ hs′
   found-all gs is f e =
@@ -221,18 +225,20 @@ source s list q rows is h = go (read s list) refl (exactness s list q rows is h)
         let rows-are : rs ≡ rows = sym (ap rowsIn e) ∙ z .records in
         let y : Stream s list d (glyphsIn rs) (map (λ (x : ItemRow). x .item) xs) = read-allowed s list rs xs d e in
         let keys : map keyOf rows ≡ map key (glyphsIn rs) = keys-rows rows ∙ ap (λ (l : List GlyphRow). map key (glyphsIn l)) (sym rows-are) in
-        let text : (q ≡ written (z .glyphs)) × GoodQuery (z .glyphs) = queryText .only q (z .glyphs) (z .asked) in
-        (record {
-          glyphs = glyphsIn rs;
-          wanted = z .glyphs;
-          accepted = record { widths = y .widths; list-sound = y .list-sound; end = d; items = map (λ (x : ItemRow). x .item) xs; allowed = y .allowed };
-          well-formed = record { text = text .0; good = text .1 };
-          list-of = record {
-            every = λ i o. z .every i (subst (λ (ks : List Key). OccursAt (z .glyphs) ks i) (sym keys) o);
-            no-other = λ i m. subst (λ (ks : List Key). OccursAt (z .glyphs) ks i) keys (z .only i m);
-            each-once-earliest-first = z .rising;
-          };
-        }, ap glyphsIn rows-are)
+        let text : (q ≡ written (z .glyphs)) × GoodQuery (z .glyphs) = queryText .only q (z .glyphs) (z .asked) in (
+          record {
+            glyphs = glyphsIn rs;
+            wanted = z .glyphs;
+            accepted = record { widths = y .widths; list-sound = y .list-sound; end = d; items = map (λ (x : ItemRow). x .item) xs; allowed = y .allowed };
+            well-formed = record { text = text .0; good = text .1 };
+            list-of = record {
+              every = λ i o. z .every i (subst (λ (ks : List Key). OccursAt (z .glyphs) ks i) (sym keys) o);
+              no-other = λ i m. subst (λ (ks : List Key). OccursAt (z .glyphs) ks i) keys (z .only i m);
+              each-once-earliest-first = z .rising;
+            };
+          },
+          ap glyphsIn rows-are,
+        )
 
 module _ (s list q : List ℕ) (rs : List Record) (hs : List ℕ) (n k : ℕ) (rs′ : List Record) (hs′ : List ℕ) (c : FindCall s list q rs hs (F.Accepted n k) rs′ hs′) where
   pub only-found : (gs : List Glyph) × (qs : List Wanted) × (is : List ℕ) × Accepted s list gs × WellFormed q qs × ListOf qs gs is × FoundAll s rs hs gs is (F.Accepted n k) rs′ hs′

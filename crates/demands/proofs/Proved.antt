@@ -49,6 +49,13 @@ refuse-from-the-table = record {
   finder = λ s list q rs hs rs′ hs′ number at c. find-calls.from-the-table s list q rs hs rs′ hs′ number at c;
 }
 
+pub refuse-exactly : D.RefuseExactly
+refuse-exactly = record {
+  reader = λ s list rs es r rs′ es′ number at c h. read-calls.refuses s list rs es r rs′ es′ c number at h;
+  rewriter = λ s list o r o′ number at c h. spell-calls.refuses s list o r o′ c number at h;
+  finder = λ s list q rs hs r rs′ hs′ number at c h. find-calls.refuses s list q rs hs r rs′ hs′ c number at h;
+}
+
 pub leave-alone : D.LeaveAlone
 leave-alone = record {
   reader = λ s list rs es r rs′ es′ number at c h. read-calls.leaves s list rs es r rs′ es′ c number at h;
@@ -95,7 +102,7 @@ pub by-any-command : D.ByAnyCommand
 by-any-command = record {
   forms = find-calls.five-forms;
   no-difference = λ s list s₂ list₂ q rs rs₂ hs hs₂ r r₂ rs′ rs₂′ hs′ hs₂′ gs gs₂ qs is a a₂ o c c₂ w l p p₂ k k₂.
-    find-calls.same-by-keys s list s₂ list₂ q rs rs₂ hs hs₂ r r₂ rs′ rs₂′ hs′ hs₂′ gs gs₂ qs is a a₂ (find-calls.otherwise-keys s list s₂ list₂ gs gs₂ a a₂ o) c c₂ w l p p₂ k k₂;
+      find-calls.same-by-keys s list s₂ list₂ q rs rs₂ hs hs₂ r r₂ rs′ rs₂′ hs′ hs₂′ gs gs₂ qs is a a₂ (find-calls.otherwise-keys s list s₂ list₂ gs gs₂ a a₂ o) c c₂ w l p p₂ k k₂;
 }
 
 pub alike-answer-alike : D.AlikeAnswerAlike
@@ -138,9 +145,18 @@ module _ (s list : List ℕ) (n m pages len : ℕ) (c : JudgeCall s list (J.Acce
           let y : Stream s list d (map (λ (r : GlyphRow). r .glyph) rs) (map (λ (x : ItemRow). x .item) xs) = read-allowed s list rs xs d e in
           let z : four (J.Accepted n m pages len) (length rs) (length xs) (d .ordinal) (lengthOf (spellWith s (widthList list))) =
           subst (λ (x : Judging). four x (length rs) (length xs) (d .ordinal) (lengthOf (spellWith s (widthList list)))) (sym h) (refl, refl, refl, refl) in
-          let text : spellWith s (widthList list) ≡ houseSpelling (y .widths) (y .allowed .commands) = rw (y .list-sound .says, y .commands-of) in
-          (y .widths, d, map (λ (r : GlyphRow). r .glyph) rs, map (λ (x : ItemRow). x .item) xs, y .list-sound, y .allowed,
-          z .0 ∙ sym (length-map rs (λ (r : GlyphRow). r .glyph)), z .1 ∙ sym (length-map xs (λ (x : ItemRow). x .item)), z .2, told-length (houseSpelling (y .widths) (y .allowed .commands)) (z .3 ∙ ap lengthOf text))
+          let text : spellWith s (widthList list) ≡ houseSpelling (y .widths) (y .allowed .commands) = rw (y .list-sound .says, y .commands-of) in (
+            y .widths,
+            d,
+            map (λ (r : GlyphRow). r .glyph) rs,
+            map (λ (x : ItemRow). x .item) xs,
+            y .list-sound,
+            y .allowed,
+            z .0 ∙ sym (length-map rs (λ (r : GlyphRow). r .glyph)),
+            z .1 ∙ sym (length-map xs (λ (x : ItemRow). x .item)),
+            z .2,
+            told-length (houseSpelling (y .widths) (y .allowed .commands)) (z .3 ∙ ap lengthOf text),
+          )
 
 judge-refused : (s list : List ℕ) (number at : ℕ) → JudgeCall s list (J.Refused number at)
     → (rs : List Record) (es : List Entry) (r : Reading) (rs′ : List Record) (es′ : List Entry) → ReadCall s list rs es r rs′ es′ → r .answer ≡ R.Refused number at

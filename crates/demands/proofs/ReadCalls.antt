@@ -25,6 +25,7 @@ use Rattle.laws_answers.proofs.Numbers.{numbers}
 use Rattle.laws_offsets.specs.Offsets.{ReadOffset, OrRoom, Said}
 use Rattle.laws_offsets.proofs.Offsets.{offsets}
 use Rattle.laws_offsets.proofs.ByNumber.{by-number}
+use Rattle.laws_offsets.proofs.Exactly.{exactly}
 use Rattle.demands.specs.Demands.{SoundList, Allowed, SeenGlyph, recorded, set, SeenEntry, entered, drawn, IsAccepted, RecordedAll, RecordEach}
 use Rattle.demands.proofs.Allowed.{ReadsTo, allowed-reads, Stream, read-allowed}
 
@@ -141,6 +142,9 @@ module _ (s list : List ℕ) (rs : List Record) (es : List Entry) (r : Reading) 
     pub from-the-table : OrRoom (ReadOffset s list) number at × Said s list [] number at
     from-the-table = (offsets .reader (length rs) (length es) s list number at refused-into, by-number .reader (length rs) (length es) s list number at refused-into .0)
 
+  pub refuses : (number at : ℕ) → ReadOffset s list number at → r .answer ≡ R.Refused number at
+  refuses number at o = ap (λ (y : Reading). y .answer) (c .answer ∙ ap readingOf (exactly .reader (length rs) (length es) s list number at o))
+
   -- an acceptance
   pub record Rows : Type 0 where
     pub glyphs : List GlyphRow
@@ -224,9 +228,16 @@ module _ (s list : List ℕ) (rs : List Record) (es : List Entry) (r : Reading) 
       → (w : Widths) × (end : Env) × (gs : List Glyph) × (xs : List Item) × SoundList list w × Allowed s w end gs xs × (length gs ≤ length rs) × (length xs ≤ length es)
   only-allowed h =
       let x : Rows = accepted-call h in
-      let y : Stream s list (x .env) (glyphsIn (x .glyphs)) (itemsIn (x .items)) = read-allowed s list (x .glyphs) (x .items) (x .env) (x .read-is) in
-      (y .widths, x .env, glyphsIn (x .glyphs), itemsIn (x .items), y .list-sound, y .allowed,
-      rw (length-map (x .glyphs) (λ (r : GlyphRow). r .glyph)) (x .room), rw (length-map (x .items) (λ (z : ItemRow). z .item)) (x .entries-room))
+      let y : Stream s list (x .env) (glyphsIn (x .glyphs)) (itemsIn (x .items)) = read-allowed s list (x .glyphs) (x .items) (x .env) (x .read-is) in (
+        y .widths,
+        x .env,
+        glyphsIn (x .glyphs),
+        itemsIn (x .items),
+        y .list-sound,
+        y .allowed,
+        rw (length-map (x .glyphs) (λ (r : GlyphRow). r .glyph)) (x .room),
+        rw (length-map (x .items) (λ (z : ItemRow). z .item)) (x .entries-room),
+      )
 
   pub only-no-room : (at : ℕ) → r .answer ≡ R.Refused 13 at
       → (w : Widths) × (end : Env) × (gs : List Glyph) × (xs : List Item) × SoundList list w × Allowed s w end gs xs × ((length rs < length gs) ⊎ (length es < length xs))
