@@ -29,6 +29,7 @@ use Rattle.laws_answers.proofs.Numbers.{numbers}
 use Rattle.laws_offsets.specs.Offsets.{FindOffset, OrRoom, Said}
 use Rattle.laws_offsets.proofs.Offsets.{offsets}
 use Rattle.laws_offsets.proofs.ByNumber.{by-number}
+use Rattle.laws_offsets.proofs.Exactly.{exactly}
 use Rattle.demands.specs.Demands.{Allowed, Accepted, recorded, set, WellFormed, ListOf, FoundAll, SetBy, none, c-or-C, t-or-u, two-digits, Motion, to-place, by-way, SetOtherwise, ended, same, otherwise, moved, moved₂, FiveForms, SameList, Alike}
 use Rattle.demands.proofs.Allowed.{ReadsTo, allowed-reads, allowed-accepted, commands-are, Stream, read-allowed}
 use Rattle.demands.proofs.ReadCalls.{take-over, drop-over, length-over, glyphs-seen, rows-stand}
@@ -171,6 +172,9 @@ module _ (s list q : List ℕ) (rs : List Record) (hs : List ℕ) (r : Finding) 
       go : (x : Found) → Kept (length rs) (length hs) (find s list q) x → rs′ ≡ recordsFound rs x → hs′ ≡ hitsOver hs x → (length rs′ ≡ length rs) × (length hs′ ≡ length hs)
       go (notFound n at) k a b = (ap length a, ap length b)
       go (found gs is) k a b = (ap length a ∙ length-over (map recordOf gs) rs (omega (arith, length-map gs recordOf, k .1)), ap length b ∙ length-over is hs (k .2))
+
+  pub refuses : (number at : ℕ) → FindOffset s list q number at → r ≡ F.Refused number at
+  refuses number at h = c .answer ∙ ap findingOf (exactly .finder (length rs) (length hs) s list q number at h)
 
   -- what the rules found is in the rows
   found-all : (gs : List Glyph) (is : List ℕ) (f : Finds s list q gs is) → findInto (length rs) (length hs) s list q ≡ found (f .rows) is → FoundAll s rs hs gs is r rs′ hs′

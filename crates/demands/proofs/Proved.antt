@@ -49,6 +49,13 @@ refuse-from-the-table = record {
   finder = λ s list q rs hs rs′ hs′ number at c. find-calls.from-the-table s list q rs hs rs′ hs′ number at c;
 }
 
+pub refuse-exactly : D.RefuseExactly
+refuse-exactly = record {
+  reader = λ s list rs es r rs′ es′ number at c h. read-calls.refuses s list rs es r rs′ es′ c number at h;
+  rewriter = λ s list o r o′ number at c h. spell-calls.refuses s list o r o′ c number at h;
+  finder = λ s list q rs hs r rs′ hs′ number at c h. find-calls.refuses s list q rs hs r rs′ hs′ c number at h;
+}
+
 pub leave-alone : D.LeaveAlone
 leave-alone = record {
   reader = λ s list rs es r rs′ es′ number at c h. read-calls.leaves s list rs es r rs′ es′ c number at h;

@@ -25,6 +25,7 @@ use Rattle.laws_answers.proofs.Numbers.{numbers}
 use Rattle.laws_offsets.specs.Offsets.{ReadOffset, OrRoom, Said}
 use Rattle.laws_offsets.proofs.Offsets.{offsets}
 use Rattle.laws_offsets.proofs.ByNumber.{by-number}
+use Rattle.laws_offsets.proofs.Exactly.{exactly}
 use Rattle.demands.specs.Demands.{SoundList, Allowed, SeenGlyph, recorded, set, SeenEntry, entered, drawn, IsAccepted, RecordedAll, RecordEach}
 use Rattle.demands.proofs.Allowed.{ReadsTo, allowed-reads, Stream, read-allowed}
 
@@ -140,6 +141,9 @@ module _ (s list : List ℕ) (rs : List Record) (es : List Entry) (r : Reading) 
 
     pub from-the-table : OrRoom (ReadOffset s list) number at × Said s list [] number at
     from-the-table = (offsets .reader (length rs) (length es) s list number at refused-into, by-number .reader (length rs) (length es) s list number at refused-into .0)
+
+  pub refuses : (number at : ℕ) → ReadOffset s list number at → r .answer ≡ R.Refused number at
+  refuses number at o = ap (λ (y : Reading). y .answer) (c .answer ∙ ap readingOf (exactly .reader (length rs) (length es) s list number at o))
 
   -- an acceptance
   pub record Rows : Type 0 where

@@ -30,6 +30,7 @@ use Rattle.laws_answers.proofs.Numbers.{numbers}
 use Rattle.laws_offsets.specs.Offsets.{ReadOffset, OrRoom, Said}
 use Rattle.laws_offsets.proofs.Offsets.{offsets}
 use Rattle.laws_offsets.proofs.ByNumber.{by-number}
+use Rattle.laws_offsets.proofs.Exactly.{exactly}
 use Rattle.laws_house.specs.Lines.{HouseText}
 use Rattle.laws_house.proofs.Spelt.{speltInLines}
 use Rattle.laws_needed.specs.Statement.{OnlyWhereItDiffers}
@@ -126,6 +127,9 @@ module _ (s list o : List ℕ) (r : Respelling) (o′ : List ℕ) (c : RespellCa
       go : (x : Spelling) → Given (length o) (respell s list) x → o′ ≡ bufferOver o x → length o′ ≡ length o
       go (notSpelled n at) g e = ap length e
       go (spelled t) g e = ap length e ∙ length-over t o (g .1)
+
+  pub refuses : (number at : ℕ) → ReadOffset s list number at → r ≡ S.Refused number at
+  refuses number at h = c .answer ∙ ap respellingOf (exactly .rewriter (length o) s list number at h)
 
   module _ (w : Widths) (end : Env) (gs : List Glyph) (xs : List Item) (l : SoundList list w) (a : Allowed s w end gs xs) where
     abbrev text : List ℕ

@@ -132,8 +132,8 @@ pub record Answer : Type 0 where
       → FindCall s list q rs hs r rs′ hs′ → (length rs′ ≡ length rs) × (length hs′ ≡ length hs)
 
 -- "The reader, rewriter and finder each accept, or refuse with a number and an offset from the table in 01." (An answer is the one or the
--- other by its type.) `ReadOffset` and `FindOffset` are the table's rows: each number with what stands at its offset; 13 at 0 for want of
--- room; `Said` is the same by numbers (`laws_offsets`).
+-- other by its type.) `ReadOffset` and `FindOffset` are the table's rows: each number with its reason and what stands at its offset, where
+-- no earlier reason is there; 13 at 0 for want of room; `Said` is the same by numbers (`laws_offsets`).
 pub record Refuse : Type 0 where
   pub reader : (s list : List ℕ) (rs : List Record) (es : List Entry) (r : Reading) (rs′ : List Record) (es′ : List Entry) (number at : ℕ)
       → ReadCall s list rs es r rs′ es′ → r .answer ≡ R.Refused number at → OrRoom (ReadOffset s list) number at × Said s list [] number at
@@ -141,6 +141,18 @@ pub record Refuse : Type 0 where
       → OrRoom (ReadOffset s list) number at × Said s list [] number at
   pub finder : (s list q : List ℕ) (rs : List Record) (hs : List ℕ) (rs′ : List Record) (hs′ : List ℕ) (number at : ℕ)
       → FindCall s list q rs hs (F.Refused number at) rs′ hs′ → OrRoom (FindOffset s list q) number at × Said s list q number at
+
+-- 01: "Each is given exactly for its reason." "Order: 1, 2, 12, then the stream from its start; at one command the smallest number. 13 comes
+-- last, when all else passed." The other way: where a row of the table is there, that number and offset are answered, whatever is lent. At
+-- one command (`Fault`, `laws_offsets`) that is one of 3 to 6 as it is scanned, else one of 7 to 10 as it is performed, and 7 behind `x s`;
+-- which of these, the definitions say. For 13 see `NoRoom`.
+pub record RefuseExactly : Type 0 where
+  pub reader : (s list : List ℕ) (rs : List Record) (es : List Entry) (r : Reading) (rs′ : List Record) (es′ : List Entry) (number at : ℕ)
+      → ReadCall s list rs es r rs′ es′ → ReadOffset s list number at → r .answer ≡ R.Refused number at
+  pub rewriter : (s list o : List ℕ) (r : Respelling) (o′ : List ℕ) (number at : ℕ)
+      → RespellCall s list o r o′ → ReadOffset s list number at → r ≡ S.Refused number at
+  pub finder : (s list q : List ℕ) (rs : List Record) (hs : List ℕ) (r : Finding) (rs′ : List Record) (hs′ : List ℕ) (number at : ℕ)
+      → FindCall s list q rs hs r rs′ hs′ → FindOffset s list q number at → r ≡ F.Refused number at
 
 -- "A refusal leaves every row and buffer holding what it held before."
 pub record LeaveAlone : Type 0 where

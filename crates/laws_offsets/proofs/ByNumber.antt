@@ -1,8 +1,9 @@
 -- The refusals by their numbers: what each one's offset is, and that it lies in its input.
-use Prim.Native.Nat.{ℕ, _≤_}
+use Prim.Native.Nat.{ℕ, _<_, _≤_}
 use native.Mathlib.Omega.{arith}
 use mathlib.Core.Bool.{false}
 use mathlib.Core.List.{List, []}
+use mathlib.Core.Logic.{_⊎_, inl, inr}
 use mathlib.Core.Path.{_≡_, refl}
 use borrow.Author.Tests.{ne-eqb}
 use lib.Dec.{eqb}
@@ -11,7 +12,7 @@ use Rattle.rules.specs.Widths.{Widths}
 use Rattle.rules.specs.State.{Env}
 use Rattle.laws_offsets.specs.Stream.{FirstByte, Fault, as-written, as-done, behind-stop, StreamOffset, at-command, at-end}
 use Rattle.laws_offsets.specs.Lists.{LineStart, first-line, behind-newline, ListOffset, QueryOffset}
-use Rattle.laws_offsets.specs.Offsets.{ReadOffset, too-long, in-list, in-stream, FindOffset, as-read, in-query, OrRoom, room-aside, no-room, Said, ByNumber}
+use Rattle.laws_offsets.specs.Offsets.{ReadOffset, too-long, in-list, in-stream, FindOffset, one-too-long, then-in-list, then-in-query, then-in-stream, OrRoom, room-aside, no-room, Said, ByNumber}
 use Rattle.laws_offsets.proofs.Offsets.{offsets}
 
 -- of a stream: 3 to 10 at a first byte, or 11 at the end
@@ -39,14 +40,26 @@ start-inside t _ (behind-newline at h e) = omega arith
 
 module _ (s list q : List ℕ) where
   -- 1 and 13, which point at no place
-  zero-said : (n : ℕ) → 1 ≤ n → n ≤ 13 → (n ≡ 2 → ⊥) → (3 ≤ n → n ≤ 12 → ⊥) → Said s list q n 0
-  zero-said n lo hi no-2 no-3 = record {
-    number = (lo, hi);
-    of-1 = λ h. refl;
-    of-2 = λ h. absurd (no-2 h);
-    of-3-to-10 = λ h k. absurd (no-3 h (omega arith));
-    of-11 = λ h. absurd (no-3 (omega arith) (omega arith));
-    of-12 = λ h. absurd (no-3 (omega arith) (omega arith));
+  long-said : (16_777_216 < length s) ⊎ (65_536 < length list) ⊎ (8_192 < length q) → Said s list q 1 0
+  long-said o = record {
+    number = (omega arith, omega arith);
+    of-1 = λ h. (refl, o);
+    of-2 = λ h. absurd (omega arith);
+    of-3-to-10 = λ h k. absurd (omega arith);
+    of-11 = λ h. absurd (omega arith);
+    of-12 = λ h. absurd (omega arith);
+    of-13 = λ h. absurd (omega arith);
+    inside = omega arith;
+  }
+
+  room-said : Said s list q 13 0
+  room-said = record {
+    number = (omega arith, omega arith);
+    of-1 = λ h. absurd (omega arith);
+    of-2 = λ h. absurd (omega arith);
+    of-3-to-10 = λ h k. absurd (omega arith);
+    of-11 = λ h. absurd (omega arith);
+    of-12 = λ h. absurd (omega arith);
     of-13 = λ h. refl;
     inside = omega arith;
   }
@@ -92,27 +105,32 @@ module _ (s list q : List ℕ) where
   }
 
   read-said : (n at : ℕ) → ReadOffset s list n at → Said s list q n at
-  read-said _ _ too-long = zero-said 1 (omega arith) (omega arith) (λ h. omega arith) (λ h k. omega arith)
-  read-said _ _ (in-list at o) = list-said at o
-  read-said _ _ (in-stream n at w e o) = stream-said n at (of-stream w s n at o)
+  read-said _ _ (too-long (inl h)) = long-said (inl h)
+  read-said _ _ (too-long (inr h)) = long-said (inr (inl h))
+  read-said _ _ (in-list at i o) = list-said at o
+  read-said _ _ (in-stream n at w i e o) = stream-said n at (of-stream w s n at o)
 
   find-said : (n at : ℕ) → FindOffset s list q n at → Said s list q n at
-  find-said _ _ (as-read n at o) = read-said n at o
-  find-said _ _ (in-query at o) = query-said at o
+  find-said _ _ (one-too-long h) = long-said h
+  find-said _ _ (then-in-list at i j o) = list-said at o
+  find-said _ _ (then-in-query at w i j e o) = query-said at o
+  find-said _ _ (then-in-stream n at w qs i j e f o) = stream-said n at (of-stream w s n at o)
 
   either-said : (P : ℕ → ℕ → Type 0) → ((n at : ℕ) → P n at → Said s list q n at) → (n at : ℕ) → OrRoom P n at → Said s list q n at
   either-said P f _ _ (room-aside n at o) = f n at o
-  either-said P f _ _ no-room = zero-said 13 (omega arith) (omega arith) (λ h. omega arith) (λ h k. omega arith)
+  either-said P f _ _ no-room = room-said
 
 -- the numbers alone: the reader's, never with 12; the finder's
 pub read-number : (s list : List ℕ) (n at : ℕ) → ReadOffset s list n at → (1 ≤ n) × (n ≤ 11)
-read-number s list _ _ too-long = (omega arith, omega arith)
-read-number s list _ _ (in-list at o) = (omega arith, omega arith)
-read-number s list _ _ (in-stream n at w e o) = let r : (3 ≤ n) × (n ≤ 11) = of-stream w s n at o .number in (omega arith, omega arith)
+read-number s list _ _ (too-long h) = (omega arith, omega arith)
+read-number s list _ _ (in-list at i o) = (omega arith, omega arith)
+read-number s list _ _ (in-stream n at w i e o) = let r : (3 ≤ n) × (n ≤ 11) = of-stream w s n at o .number in (omega arith, omega arith)
 
 pub find-number : (s list q : List ℕ) (n at : ℕ) → FindOffset s list q n at → (1 ≤ n) × (n ≤ 12)
-find-number s list q _ _ (as-read n at o) = let r : (1 ≤ n) × (n ≤ 11) = read-number s list n at o in (omega arith, omega arith)
-find-number s list q _ _ (in-query at o) = (omega arith, omega arith)
+find-number s list q _ _ (one-too-long h) = (omega arith, omega arith)
+find-number s list q _ _ (then-in-list at i j o) = (omega arith, omega arith)
+find-number s list q _ _ (then-in-query at w i j e o) = (omega arith, omega arith)
+find-number s list q _ _ (then-in-stream n at w qs i j e f o) = let r : (3 ≤ n) × (n ≤ 11) = of-stream w s n at o .number in (omega arith, omega arith)
 
 no-query : (s list : List ℕ) (n at : ℕ) → OrRoom (ReadOffset s list) n at → n ≡ 12 → ⊥
 no-query s list _ _ (room-aside n at o) h = let r : (1 ≤ n) × (n ≤ 11) = read-number s list n at o in omega arith

@@ -1,14 +1,15 @@
--- Where a place has what is said of the place of a refusal, the refusal is there.
+-- Where a row of the table is there, with what is said of its place, that refusal is given.
 use Prim.Native.Nat.{ℕ, zero, suc, _+_, _-_, _<_, _≤_}
 use native.Mathlib.Omega.{arith}
-use mathlib.Core.Bool.{Bool, true, false}
+use mathlib.Core.Bool.{Bool, true, false, _||_}
 use mathlib.Core.List.{List, [], _∷_, _++_, append-assoc, append-nil}
 use mathlib.Core.Logic.{_⊎_, inl, inr}
 use mathlib.Core.Path.{_≡_, refl, sym, ap, subst, _∙_}
-use borrow.Author.Tests.{eqb-true, eqb-false, ltb-true, ltb-false, le-ltb}
+use borrow.Author.Tests.{eqb-true, eqb-false, ltb-true, ltb-false, lt-ltb, le-ltb}
 use lib.Dec.{ltb}
 use lib.ListN.{length, take, drop, getD, length-drop, take-append-drop, List·getD-eq-default}
 use lib.Seq.{getD-drop, take-take}
+use Rattle.rules.specs.declared.Judging.the-variants as J
 use Rattle.rules.specs.Bytes.{is, isWhite, span, oneLine}
 use Rattle.rules.specs.Act.{Cmd}
 use Rattle.rules.specs.Scan.{letter, got, bad, Scan, command, commands}
@@ -16,13 +17,13 @@ use Rattle.rules.specs.Widths.{linesFrom, Widths, WidthList, unsound, sound, wi
 use Rattle.rules.specs.State.{Env, start, Glyph, Item, refused}
 use Rattle.rules.specs.Record.{Answer, refuse, afterRows, glyphRows, itemRows, follow}
 use Rattle.rules.specs.Find.{Wanted, queryLines, Query, illFormed, wellFormed, query}
-use Rattle.rules.specs.Answers.{read}
-use Rattle.laws.proofs.Cases.{on, no}
+use Rattle.rules.specs.Answers.{streamMost, isOver, read, roomFor, readInto, notSpelled, spellIf, spellWith, respell, spellingIn, respellInto, notFound, hitsIn, findAsked, findWith, find, foundIn, findInto, judgingOf, judge}
+use Rattle.laws.proofs.Cases.{on, no, or-true}
 use Rattle.laws_scan.proofs.Walk.{from, from-end, from-white, from-comment, from-bad, from-got}
 use Rattle.laws_find.specs.Written.{gapLine}
 use Rattle.laws_offsets.specs.Stream.{byteAt, behindAt, commandAt, FirstByte, ReadTo, from-start, past-white, past-comment, past-command, Fault, as-written, as-done, behind-stop, StreamOffset, at-command, at-end}
 use Rattle.laws_offsets.specs.Lists.{LineStart, first-line, behind-newline, lineEnd, WrongAt, unended, wrong-line, missing, ListOffset, AskedWrongAt, empty, unended-line, wrong-asked, last-gap, QueryOffset}
-use Rattle.laws_offsets.specs.Offsets.{Exactly}
+use Rattle.laws_offsets.specs.Offsets.{NotTooLong, ReadOffset, too-long, in-list, in-stream, FindOffset, one-too-long, then-in-list, then-in-query, then-in-stream, Exactly}
 use Rattle.laws_offsets.proofs.ByNumber.{start-inside}
 use Rattle.laws_offsets.proofs.Widths as W
 use Rattle.laws_offsets.proofs.Query as Q
@@ -201,13 +202,64 @@ module _ (w : Widths) (s : List ℕ) where
   stream-refused _ _ (at-command n at f) = carried at (f .env) (f .read-to) n at (fault-refused at (f .env) n (f .first) (f .fault))
   stream-refused _ _ (at-end e h q) = carried (length s) e h 11 (length s) (rw (from-end s (length s) (omega arith), q))
 
-read-refused : (s list : List ℕ) (w : Widths) (n at : ℕ) → length s ≤ 16_777_216 → length list ≤ 65_536 → widthList list ≡ sound w → StreamOffset w s n at → read s list ≡ refuse n at
-unfolding read
-read-refused s list w n at h k e o = rw (le-ltb 16_777_216 (length s) h, le-ltb 65_536 (length list) k, e) (stream-refused w s n at o)
+-- ---- answers
+
+module _ (s list : List ℕ) where
+  read-refused : (n at : ℕ) → ReadOffset s list n at → read s list ≡ refuse n at
+  unfolding read
+  read-refused _ _ (too-long (inl h)) = rw (lt-ltb 16_777_216 (length s) h)
+  read-refused _ _ (too-long (inr h)) = rw (or-true (isOver streamMost s) (isOver 65_536 list) (lt-ltb 65_536 (length list) h))
+  read-refused _ _ (in-list at i o) = rw (le-ltb 16_777_216 (length s) (i .stream-short), le-ltb 65_536 (length list) (i .list-short), list-refused list at o)
+  read-refused _ _ (in-stream n at w i e o) =
+      rw (le-ltb 16_777_216 (length s) (i .stream-short), le-ltb 65_536 (length list) (i .list-short), e) (stream-refused w s n at o)
+
+  reader-refused : (records entries n at : ℕ) → ReadOffset s list n at → readInto records entries s list ≡ refuse n at
+  unfolding readInto
+  reader-refused records entries n at o = ap (roomFor records entries) (read-refused n at o)
+
+  respell-refused : (n at : ℕ) → ReadOffset s list n at → respell s list ≡ notSpelled n at
+  unfolding respell
+  respell-refused n at o = ap (spellIf (spellWith s (widthList list))) (read-refused n at o)
+
+  rewriter-refused : (room n at : ℕ) → ReadOffset s list n at → respellInto room s list ≡ notSpelled n at
+  unfolding respellInto
+  rewriter-refused room n at o = ap (spellingIn room) (respell-refused n at o)
+
+  judge-refused : (n at : ℕ) → ReadOffset s list n at → judge s list ≡ J.Refused n at
+  unfolding judge
+  judge-refused n at o = ap (judgingOf (spellWith s (widthList list))) (read-refused n at o)
+
+  module _ (q : List ℕ) where
+    -- none of the three is over its limit
+    find-short : NotTooLong s list → length q ≤ 8_192 → find s list q ≡ findWith s q (widthList list)
+    unfolding find
+    find-short i j = rw (le-ltb 16_777_216 (length s) (i .stream-short), le-ltb 65_536 (length list) (i .list-short), le-ltb 8_192 (length q) j)
+
+    find-long : (isOver streamMost s || (isOver 65_536 list || isOver 8_192 q)) ≡ true → find s list q ≡ notFound 1 0
+    unfolding find
+    find-long h = rw h
+
+    find-refused : (n at : ℕ) → FindOffset s list q n at → find s list q ≡ notFound n at
+    find-refused _ _ (one-too-long (inl h)) = find-long (rw (lt-ltb 16_777_216 (length s) h))
+    find-refused _ _ (one-too-long (inr (inl h))) = find-long (or-true (isOver streamMost s) _ (rw (lt-ltb 65_536 (length list) h)))
+    find-refused _ _ (one-too-long (inr (inr h))) = find-long (or-true (isOver streamMost s) _ (or-true (isOver 65_536 list) _ (lt-ltb 8_192 (length q) h)))
+    find-refused _ _ (then-in-list at i j o) = find-short i j ∙ ap (findWith s q) (list-refused list at o)
+    find-refused _ _ (then-in-query at w i j e o) = find-short i j ∙ ap (findWith s q) e ∙ ap (findAsked s w) (query-refused q at o)
+    find-refused _ _ (then-in-stream n at w qs i j e f o) = find-short i j ∙ ap (findWith s q) e ∙ ap (findAsked s w) f ∙ ap (hitsIn qs) (stream-refused w s n at o)
+
+    finder-refused : (records hits n at : ℕ) → FindOffset s list q n at → findInto records hits s list q ≡ notFound n at
+    unfolding findInto
+    finder-refused records hits n at o = ap (foundIn records hits) (find-refused n at o)
 
 pub exactly : Exactly
 exactly = record {
-  stream = read-refused;
+  reads = read-refused;
+  reader = λ records entries s list n at o. reader-refused s list records entries n at o;
+  respells = respell-refused;
+  rewriter = λ room s list n at o. rewriter-refused s list room n at o;
+  finds = find-refused;
+  finder = λ records hits s list q n at o. finder-refused s list q records hits n at o;
+  judges = judge-refused;
   list = list-refused;
   query = query-refused;
   query-inside = query-inside;

@@ -1,8 +1,10 @@
--- Every refusal's number is one of the table's, and its offset is what the table says of that number.
-use Prim.Native.Nat.{ℕ}
-use mathlib.Core.Bool.{_||_}
+-- Every refusal's number is one of the table's; its reason and its offset are what the table says of that number.
+use Prim.Native.Nat.{ℕ, _<_, _≤_}
+use mathlib.Core.Bool.{true, false, _||_}
 use mathlib.Core.List.{List}
-use mathlib.Core.Path.{_≡_, refl, subst}
+use mathlib.Core.Logic.{_⊎_, inl, inr}
+use mathlib.Core.Path.{_≡_, refl, sym, subst}
+use borrow.Author.Tests.{ltb-true, ltb-false}
 use lib.Dec.{ltb}
 use lib.ListN.{length}
 use Rattle.rules.specs.declared.Judging.{Judging}
@@ -13,8 +15,9 @@ use Rattle.rules.specs.State.{start}
 use Rattle.rules.specs.Record.{Answer, refuse, answer, follow}
 use Rattle.rules.specs.Find.{Wanted, Query, illFormed, wellFormed, query}
 use Rattle.rules.specs.Answers.{streamMost, isOver, readWith, read, roomFor, readInto, Spelling, notSpelled, spelled, spellIf, spellWith, respell, spellingIn, respellInto, Found, notFound, found, hitsIn, findAsked, findWith, find, foundIn, findInto, judgingOf, judge}
-use Rattle.laws.proofs.Cases.{if-both}
-use Rattle.laws_offsets.specs.Offsets.{ReadOffset, too-long, in-list, in-stream, FindOffset, as-read, in-query, OrRoom, room-aside, no-room, Offsets}
+use Rattle.laws.proofs.Cases.{on, no, if-both, if-on}
+use Rattle.laws_offsets.specs.Stream.{StreamOffset}
+use Rattle.laws_offsets.specs.Offsets.{NotTooLong, ReadOffset, too-long, in-list, in-stream, FindOffset, one-too-long, then-in-list, then-in-query, then-in-stream, OrRoom, room-aside, no-room, Offsets}
 use Rattle.laws_offsets.proofs.Stream as P
 use Rattle.laws_offsets.proofs.Widths as W
 use Rattle.laws_offsets.proofs.Query as Q
@@ -39,20 +42,31 @@ JudgingIn P (J.Accepted r x p t) = Unit {0}
 -- ---- the reader
 
 module _ (s list : List ℕ) where
-  stream-in : (w : Widths) → widthList list ≡ sound w → AnswerIn (ReadOffset s list) (follow w start (commands 0 0 s))
-  stream-in w e = go (follow w start (commands 0 0 s)) (P.points w s)
+  -- an input is over its limit, or none is
+  over-in : (isOver streamMost s || isOver 65_536 list) ≡ true → (16_777_216 < length s) ⊎ (65_536 < length list)
+  over-in h = on (isOver streamMost s) (λ a. inl (ltb-true 16_777_216 (length s) a)) (λ a. inr (ltb-true 65_536 (length list) (rw a at h)))
+
+  short-in : (isOver streamMost s || isOver 65_536 list) ≡ false → NotTooLong s list
+  short-in h =
+      on (isOver streamMost s) (λ a. no (sym (let z : true ≡ false = rw a at h in z)))
+      (λ a. record { stream-short = ltb-false 16_777_216 (length s) a; list-short = ltb-false 65_536 (length list) (rw a at h) })
+
+  stream-in : (Row : ℕ → ℕ → Type 0) (w : Widths) → ((n at : ℕ) → StreamOffset w s n at → Row n at) → AnswerIn Row (follow w start (commands 0 0 s))
+  stream-in Row w f = go (follow w start (commands 0 0 s)) (P.points w s)
     where
-      go : (x : Answer) → P.Points w s x → AnswerIn (ReadOffset s list) x
-      go (refuse n at) h = in-stream n at w e h
+      go : (x : Answer) → P.Points w s x → AnswerIn Row x
+      go (refuse n at) h = f n at h
       go (answer rs xs d) h = tt
 
-  list-in : (x : WidthList) → widthList list ≡ x → W.Claim list x → AnswerIn (ReadOffset s list) (readWith s x)
-  list-in (unsound at) e h = in-list at h
-  list-in (sound w) e h = stream-in w e
+  list-in : NotTooLong s list → (x : WidthList) → widthList list ≡ x → W.Claim list x → AnswerIn (ReadOffset s list) (readWith s x)
+  list-in i (unsound at) e h = in-list at i h
+  list-in i (sound w) e h = stream-in (ReadOffset s list) w (λ n at o. in-stream n at w i e o)
 
   read-in : AnswerIn (ReadOffset s list) (read s list)
   unfolding read
-  read-in = if-both (AnswerIn (ReadOffset s list)) (isOver streamMost s || isOver 65_536 list) _ _ too-long (list-in (widthList list) refl (W.list-claim list))
+  read-in =
+      if-on (AnswerIn (ReadOffset s list)) (isOver streamMost s || isOver 65_536 list) _ _ (λ h. too-long (over-in h))
+      (λ h. list-in (short-in h) (widthList list) refl (W.list-claim list))
 
   into-in : (records entries : ℕ) → AnswerIn (OrRoom (ReadOffset s list)) (readInto records entries s list)
   unfolding readInto
@@ -91,23 +105,35 @@ module _ (s list : List ℕ) where
   -- ---- the finder
 
   module _ (q : List ℕ) where
-    hits-in : (qs : List Wanted) (x : Answer) → AnswerIn (ReadOffset s list) x → FoundIn (FindOffset s list q) (hitsIn qs x)
-    hits-in qs (refuse n at) h = as-read n at h
-    hits-in qs (answer rs xs e) h = tt
+    over-asked : (isOver streamMost s || (isOver 65_536 list || isOver 8_192 q)) ≡ true → (16_777_216 < length s) ⊎ (65_536 < length list) ⊎ (8_192 < length q)
+    over-asked h =
+        on (isOver streamMost s) (λ a. inl (ltb-true 16_777_216 (length s) a))
+        (λ a. on (isOver 65_536 list) (λ b. inr (inl (ltb-true 65_536 (length list) b))) (λ b. inr (inr (ltb-true 8_192 (length q) (rw (a, b) at h)))))
 
-    asked-in : (w : Widths) (x : Query) → widthList list ≡ sound w → Q.Claim q x → FoundIn (FindOffset s list q) (findAsked s w x)
-    asked-in w (illFormed at) e h = in-query at h
-    asked-in w (wellFormed qs) e h = hits-in qs (follow w start (commands 0 0 s)) (stream-in w e)
+    short-asked : (isOver streamMost s || (isOver 65_536 list || isOver 8_192 q)) ≡ false → NotTooLong s list × (length q ≤ 8_192)
+    short-asked h =
+        on (isOver streamMost s) (λ a. no (sym (let z : true ≡ false = rw a at h in z)))
+        (λ a. on (isOver 65_536 list) (λ b. no (sym (let z : true ≡ false = rw (a, b) at h in z)))
+        (λ b. (record { stream-short = ltb-false 16_777_216 (length s) a; list-short = ltb-false 65_536 (length list) b }, ltb-false 8_192 (length q) (rw (a, b) at h))))
 
-    with-in : (x : WidthList) → widthList list ≡ x → W.Claim list x → FoundIn (FindOffset s list q) (findWith s q x)
-    with-in (unsound at) e h = as-read 2 at (in-list at h)
-    with-in (sound w) e h = asked-in w (query q) e (Q.query-claim q)
+    hits-in : (P : ℕ → ℕ → Type 0) (qs : List Wanted) (x : Answer) → AnswerIn P x → FoundIn P (hitsIn qs x)
+    hits-in P qs (refuse n at) h = h
+    hits-in P qs (answer rs xs e) h = tt
+
+    asked-in : NotTooLong s list → length q ≤ 8_192 → (w : Widths) → widthList list ≡ sound w → (x : Query) → query q ≡ x → Q.Claim q x → FoundIn (FindOffset s list q) (findAsked s w x)
+    asked-in i j w e (illFormed at) f h = then-in-query at w i j e h
+    asked-in i j w e (wellFormed qs) f h =
+        hits-in (FindOffset s list q) qs (follow w start (commands 0 0 s)) (stream-in (FindOffset s list q) w (λ n at o. then-in-stream n at w qs i j e f o))
+
+    with-in : NotTooLong s list → length q ≤ 8_192 → (x : WidthList) → widthList list ≡ x → W.Claim list x → FoundIn (FindOffset s list q) (findWith s q x)
+    with-in i j (unsound at) e h = then-in-list at i j h
+    with-in i j (sound w) e h = asked-in i j w e (query q) refl (Q.query-claim q)
 
     find-in : FoundIn (FindOffset s list q) (find s list q)
     unfolding find
     find-in =
-        if-both (FoundIn (FindOffset s list q)) (isOver streamMost s || (isOver 65_536 list || isOver 8_192 q)) _ _ (as-read 1 0 too-long)
-        (with-in (widthList list) refl (W.list-claim list))
+        if-on (FoundIn (FindOffset s list q)) (isOver streamMost s || (isOver 65_536 list || isOver 8_192 q)) _ _ (λ h. one-too-long (over-asked h))
+        (λ h. with-in (short-asked h .0) (short-asked h .1) (widthList list) refl (W.list-claim list))
 
     find-into-in : (records hits : ℕ) → FoundIn (OrRoom (FindOffset s list q)) (findInto records hits s list q)
     unfolding findInto

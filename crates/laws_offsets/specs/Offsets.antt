@@ -1,5 +1,5 @@
--- Document 01, "Refusal numbers and their order": which numbers each routine refuses with, and where each of them points. The proofs
--- stand in `proofs/`.
+-- Document 01, "Refusal numbers and their order": which numbers each routine refuses with, for which reason, where each of them points,
+-- and which comes first. The proofs stand in `proofs/`.
 use Prim.Native.Nat.{ℕ, _<_, _≤_}
 use mathlib.Core.List.{List, []}
 use mathlib.Core.Logic.{_⊎_}
@@ -10,21 +10,30 @@ use Rattle.rules.specs.declared.Judging.the-variants as J
 use Rattle.rules.specs.Bytes.{if_then_else_}
 use Rattle.rules.specs.Widths.{Widths, unsound, sound, widthList}
 use Rattle.rules.specs.Record.{refuse}
-use Rattle.rules.specs.Find.{illFormed, query}
+use Rattle.rules.specs.Find.{Wanted, illFormed, wellFormed, query}
 use Rattle.rules.specs.Answers.{read, readInto, notSpelled, respell, respellInto, notFound, find, findInto, judge}
 use Rattle.laws_offsets.specs.Stream.{FirstByte, StreamOffset}
 use Rattle.laws_offsets.specs.Lists.{ListOffset, QueryOffset}
 
--- Numbers and offsets of the reader, room aside: 1 at 0; 2 in the width list; 3 to 11 in the stream, read with a sound list.
-pub data ReadOffset (s list : List ℕ) : ℕ → ℕ → Type 0 where
-  too-long : ReadOffset s list 1 0
-  in-list : (at : ℕ) → ListOffset list at → ReadOffset s list 2 at
-  in-stream : (n at : ℕ) (w : Widths) → widthList list ≡ sound w → StreamOffset w s n at → ReadOffset s list n at
+-- 1: "stream over 16,777,216 bytes, list over 65,536, query over 8,192; offset 0". A stream and a list of which this is not so:
+pub record NotTooLong (s list : List ℕ) : Type 0 where
+  pub stream-short : length s ≤ 16_777_216
+  pub list-short : length list ≤ 65_536
 
--- of the finder: 12 in the query too
+-- The table's rows, each with its reason and its offset; "Order: 1, 2, 12, then the stream from its start": a row asks that the reasons
+-- before it are not there. Of the reader, room aside: 1 at 0; 2 in the width list; 3 to 11 in the stream, read with a sound list.
+pub data ReadOffset (s list : List ℕ) : ℕ → ℕ → Type 0 where
+  too-long : (16_777_216 < length s) ⊎ (65_536 < length list) → ReadOffset s list 1 0
+  in-list : (at : ℕ) → NotTooLong s list → ListOffset list at → ReadOffset s list 2 at
+  in-stream : (n at : ℕ) (w : Widths) → NotTooLong s list → widthList list ≡ sound w → StreamOffset w s n at → ReadOffset s list n at
+
+-- Of the finder: 12 in the query too, where the list is sound; then the stream, where the query is well formed.
 pub data FindOffset (s list q : List ℕ) : ℕ → ℕ → Type 0 where
-  as-read : (n at : ℕ) → ReadOffset s list n at → FindOffset s list q n at
-  in-query : (at : ℕ) → QueryOffset q at → FindOffset s list q 12 at
+  one-too-long : (16_777_216 < length s) ⊎ (65_536 < length list) ⊎ (8_192 < length q) → FindOffset s list q 1 0
+  then-in-list : (at : ℕ) → NotTooLong s list → length q ≤ 8_192 → ListOffset list at → FindOffset s list q 2 at
+  then-in-query : (at : ℕ) (w : Widths) → NotTooLong s list → length q ≤ 8_192 → widthList list ≡ sound w → QueryOffset q at → FindOffset s list q 12 at
+  then-in-stream : (n at : ℕ) (w : Widths) (qs : List Wanted) → NotTooLong s list → length q ≤ 8_192 → widthList list ≡ sound w → query q ≡ wellFormed qs
+      → StreamOffset w s n at → FindOffset s list q n at
 
 -- "need more room than lent": 13 at 0 too
 pub data OrRoom (P : ℕ → ℕ → Type 0) : ℕ → ℕ → Type 0 where
@@ -48,7 +57,8 @@ inputOf n s list q = if eqb n 2 then list else if eqb n 12 then q else s
 
 pub record Said (s list q : List ℕ) (n at : ℕ) : Type 0 where
   pub number : (1 ≤ n) × (n ≤ 13)
-  pub of-1 : n ≡ 1 → at ≡ 0
+  -- (the reader and the rewriter have no query, so an empty one here)
+  pub of-1 : n ≡ 1 → (at ≡ 0) × ((16_777_216 < length s) ⊎ (65_536 < length list) ⊎ (8_192 < length q))
   pub of-2 : n ≡ 2 → ListOffset list at
   pub of-3-to-10 : 3 ≤ n → n ≤ 10 → FirstByte s at
   pub of-11 : n ≡ 11 → at ≡ length s
@@ -62,11 +72,19 @@ pub record ByNumber : Type 0 where
   pub finder : (records hits : ℕ) (s list q : List ℕ) (n at : ℕ) → findInto records hits s list q ≡ notFound n at → Said s list q n at
   pub judge : (s list : List ℕ) (n at : ℕ) → judge s list ≡ J.Refused n at → Said s list [] n at × (n ≤ 11)
 
--- ---- and nowhere else
+-- ---- "Each is given exactly for its reason."
 
--- The other way: where a place has what is said of it, the refusal is there. So no second place has it.
+-- The other way: where a row's reason is there, that refusal is given, with whatever room; so no two rows are there at once, and no
+-- second place has what is said of the place.
 pub record Exactly : Type 0 where
-  pub stream : (s list : List ℕ) (w : Widths) (n at : ℕ) → length s ≤ 16_777_216 → length list ≤ 65_536 → widthList list ≡ sound w → StreamOffset w s n at → read s list ≡ refuse n at
+  pub reads : (s list : List ℕ) (n at : ℕ) → ReadOffset s list n at → read s list ≡ refuse n at
+  pub reader : (records entries : ℕ) (s list : List ℕ) (n at : ℕ) → ReadOffset s list n at → readInto records entries s list ≡ refuse n at
+  pub respells : (s list : List ℕ) (n at : ℕ) → ReadOffset s list n at → respell s list ≡ notSpelled n at
+  pub rewriter : (room : ℕ) (s list : List ℕ) (n at : ℕ) → ReadOffset s list n at → respellInto room s list ≡ notSpelled n at
+  pub finds : (s list q : List ℕ) (n at : ℕ) → FindOffset s list q n at → find s list q ≡ notFound n at
+  pub finder : (records hits : ℕ) (s list q : List ℕ) (n at : ℕ) → FindOffset s list q n at → findInto records hits s list q ≡ notFound n at
+  pub judges : (s list : List ℕ) (n at : ℕ) → ReadOffset s list n at → judge s list ≡ J.Refused n at
+  -- a place of a list or of a query that has what is said of it is the one at which the rules refuse it
   pub list : (list : List ℕ) (at : ℕ) → ListOffset list at → widthList list ≡ unsound at
   pub query : (q : List ℕ) (at : ℕ) → QueryOffset q at → query q ≡ illFormed at
   -- a query's place is before its end, unless it is empty
