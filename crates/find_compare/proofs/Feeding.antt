@@ -8,8 +8,8 @@ use borrow.Author.Needs.{needs}
 use borrow.Author.Tests.{lt-ltb, le-ltb, eq-eqb, ne-eqb}
 use Rattle.rules.specs.declared.Record.{Record}
 use Rattle.rules.specs.Find.{passes, glyphTest}
-use Rattle.find_match.specs.declared.Key.{Key}
-use Rattle.find_match.specs.Match.{keyIn, recordKey, wantedIn}
+use Rattle.name.specs.Part.{partOf}
+use Rattle.find_match.specs.Match.{keyBy, wantedIn}
 use Rattle.find_compare.specs.declared.Progress.{Progress}
 use Rattle.find_compare.specs.declared.Fed.{Fed}
 use Rattle.find_compare.specs.declared.FindAct.the-variants as A
@@ -56,8 +56,9 @@ module _ (st : Progress) where
     good-glyph = omega (arith, g .glyph, g .most)
 
   module _ (s q rows : List ℕ) (r : Record) where
-    pub fits-is : (k : Key) (page : ℕ) (t : Bool) → page ≡ pageOf st r → k ≡ recordKey r → t ≡ passes (glyphTest page (wantedIn q rows (st .glyph)) (keyIn s k)) → t ≡ fitsAt s q rows st r
-    fits-is k page t p e f = f ∙ rw (p, e)
+    pub fits-is : (own : List ℕ) (page : ℕ) (t : Bool) → page ≡ pageOf st r → own ≡ partOf s (r .place) (r .len) → t ≡ passes (glyphTest page (wantedIn q rows (st .glyph)) (keyBy own (r .ordinal) (r .gap)))
+        → t ≡ fitsAt s q rows st r
+    fits-is own page t p e f = f ∙ rw (p, e)
 
     pub feed-fits : (page : ℕ) (t : Bool) (x : Fed) → t ≡ fitsAt s q rows st r → t ≡ true → page ≡ pageOf st r → x ≡ fitted st page → x ≡ feedOf s q rows st r
     unfolding feedOf

@@ -110,8 +110,8 @@ fn fits(s: &[u8], q: &[u8], rows: &[u32], st: Progress, r: Record) -> bool
     ensures { λ t. ⌜ t ≡ fitsAt (now (s .entry)) (now (q .entry)) (now (rows .entry)) st r ⌝ }
 {
     let page = page_of(st, r);
-    let k = find_match::key_of(r);
-    find_match::fits(s, q, rows, st.glyph, page, k)
+    let own = name::name_of(s, r);
+    find_match::fits(own, q, rows, st.glyph, page, r.ordinal, r.gap)
 }
 
 // One comparison.

@@ -10,8 +10,9 @@ use borrow.Author.Needs.{needs}
 use Rattle.rules.specs.Bytes.{if_then_else_}
 use Rattle.rules.specs.Find.{Wanted, glyphTest, passes, goesOn, occurs, hitsFrom, Key as RulesKey}
 use Rattle.laws.proofs.Cases.{on, no as impossible, and-left}
+use Rattle.name.specs.Part.{partOf}
 use Rattle.find_match.specs.declared.Key.{Key}
-use Rattle.find_match.specs.Match.{keyIn, wantedIn, wantedFrom}
+use Rattle.find_match.specs.Match.{keyBy, keyIn, wantedIn, wantedFrom}
 use Rattle.find_outline.specs.declared.Outline.{Outline}
 use Rattle.find_outline.specs.declared.Moved.{Moved}
 use Rattle.find_outline.specs.Move.{passing, standing, moveOf}
@@ -91,8 +92,9 @@ module _ (s q rows : List ℕ) (j page : ℕ) (m : Moved) where
   pub stands-none : m .found ≡ false → false ≡ standsAt s q rows j page m
   stands-none t = rw t
 
-  pub stands-fit : (k : Key) (r : Bool) → m .found ≡ true → k ≡ m .key → r ≡ passes (glyphTest page (wantedIn q rows j) (keyIn s k)) → r ≡ standsAt s q rows j page m
-  stands-fit k r t g e = rw (t, ← g, e)
+  pub stands-fit : (k : Key) (own : List ℕ) (r : Bool) → m .found ≡ true → k ≡ m .key → own ≡ partOf s (k .place) (k .len) → r ≡ passes (glyphTest page (wantedIn q rows j) (keyBy own (k .ordinal) (k .gap)))
+      → r ≡ standsAt s q rows j page m
+  stands-fit k own r t g n e = rw (t, ← g, ← n, e)
 
 pub ruleset fitting = (stands-none, stands-fit, needs)
 

@@ -55,7 +55,8 @@ fn stands(s: &[u8], q: &[u8], rows: &[u32], j: usize, page: u32, m: Moved) -> bo
     let found = m.found;
     if found {
         let k = m.key;
-        find_match::fits(s, q, rows, j, page, k)
+        let own = name::name_at(s, k.place, k.len);
+        find_match::fits(own, q, rows, j, page, k.ordinal, k.gap)
     } else {
         false
     }

@@ -11,10 +11,9 @@ use borrow.Author.Tests.{le-leb, lt-leb, eq-eqb, ne-eqb}
 use Rattle.rules.specs.Bytes.{same}
 use Rattle.rules.specs.Find.{otherPage, otherName, gapPresent, gapAbsent, passes, gapTest, glyphTest, sameName, Reason as RulesReason}
 use Rattle.name.specs.Part.{partOf}
-use Rattle.find_match.specs.declared.Key.{Key}
 use Rattle.find_match.specs.declared.Reason.{Reason}
 use Rattle.find_match.specs.declared.Reason.the-variants as R
-use Rattle.find_match.specs.Match.{keyIn, gapAt, wantedIn, reasonOf, isFit}
+use Rattle.find_match.specs.Match.{keyBy, gapAt, wantedIn, reasonOf, isFit}
 
 -- ---- gaps
 
@@ -44,19 +43,19 @@ pub ruleset gap-tests = (gap-any, gap-none, gap-there, gap-absent, gap-some, nee
 
 -- ---- page, name, gap
 
-module _ (s q rows : List ℕ) (j page : ℕ) (k : Key) where
-  pub other-page : (k .ordinal ≡ page → ⊥) → R.OtherPage ≡ reasonOf (glyphTest page (wantedIn q rows j) (keyIn s k))
-  other-page h = rw (ne-eqb (k .ordinal) page h)
+module _ (own q rows : List ℕ) (j page ordinal gap : ℕ) where
+  pub other-page : (ordinal ≡ page → ⊥) → R.OtherPage ≡ reasonOf (glyphTest page (wantedIn q rows j) (keyBy own ordinal gap))
+  other-page h = rw (ne-eqb ordinal page h)
 
-  module _ (place len : ℕ) (name wanted : List ℕ) (t : Bool) (h : k .ordinal ≡ page) (a : place ≡ getD rows j 0) (b : len ≡ getD rows (64 + j) 0) (n : name ≡ partOf s (k .place) (k .len)) (m : wanted ≡ partOf q place len) (e : t ≡ same name wanted) where
-    names : sameName (partOf s (k .place) (k .len)) (wantedIn q rows j .name) ≡ t
-    names = rw (← n, ← a, ← b, ← m) (sym e)
+  module _ (place len : ℕ) (wanted : List ℕ) (t : Bool) (h : ordinal ≡ page) (a : place ≡ getD rows j 0) (b : len ≡ getD rows (64 + j) 0) (m : wanted ≡ partOf q place len) (e : t ≡ same own wanted) where
+    names : sameName own (wantedIn q rows j .name) ≡ t
+    names = rw (← a, ← b, ← m) (sym e)
 
-    pub other-name : t ≡ false → R.OtherName ≡ reasonOf (glyphTest page (wantedIn q rows j) (keyIn s k))
-    other-name f = rw (eq-eqb (k .ordinal) page h, names, f)
+    pub other-name : t ≡ false → R.OtherName ≡ reasonOf (glyphTest page (wantedIn q rows j) (keyBy own ordinal gap))
+    other-name f = rw (eq-eqb ordinal page h, names, f)
 
-    pub same-name : (g : ℕ) (r : Reason) → t ≡ true → g ≡ getD rows (128 + j) 0 → r ≡ reasonOf (gapTest (gapAt g) (k .gap)) → r ≡ reasonOf (glyphTest page (wantedIn q rows j) (keyIn s k))
-    same-name g r f c p = rw (eq-eqb (k .ordinal) page h, names, f, p, c)
+    pub same-name : (g : ℕ) (r : Reason) → t ≡ true → g ≡ getD rows (128 + j) 0 → r ≡ reasonOf (gapTest (gapAt g) gap) → r ≡ reasonOf (glyphTest page (wantedIn q rows j) (keyBy own ordinal gap))
+    same-name g r f c p = rw (eq-eqb ordinal page h, names, f, p, c)
 
 pub ruleset glyph-tests = (other-page, other-name, same-name, needs)
 

@@ -13,9 +13,13 @@ use Rattle.find_match.specs.declared.Key.{Key}
 use Rattle.find_match.specs.declared.Reason.{Reason}
 use Rattle.find_match.specs.declared.Reason.the-variants as R
 
--- what finding looks at in a record whose name stands in the stream
+-- what finding looks at in a record: its name, page ordinal and gap mark
+abbrev pub keyBy : List ℕ → ℕ → ℕ → RulesKey
+keyBy name ordinal gap = record { name = name; gap = gap; ordinal = ordinal }
+
+-- its name stands in the stream
 abbrev pub keyIn : List ℕ → Key → RulesKey
-keyIn s k = record { name = partOf s (k .place) (k .len); gap = k .gap; ordinal = k .ordinal }
+keyIn s k = keyBy (partOf s (k .place) (k .len)) (k .ordinal) (k .gap)
 
 abbrev pub recordKey : Record → Key
 recordKey r = record { ordinal = r .ordinal; gap = r .gap; place = r .place; len = r .len }

@@ -1,12 +1,11 @@
 // Whether a record is the glyph that the query wants, and why not (document 01, "Finding").
-use rules::Record;
 ghost use mathlib.Core.Path.{_≡_};
 ghost use Prim.Native.Nat.{_<_};
 ghost use lib.ListN.{length};
 ghost use Rattle.rules.specs.Find.{passes, gapTest, glyphTest};
-ghost use Rattle.find_match.specs.Match.{keyIn, recordKey, gapAt, wantedIn, reasonOf, isFit};
+ghost use Rattle.find_match.specs.Match.{keyBy, gapAt, wantedIn, reasonOf, isFit};
 
-// What finding looks at in a record.
+// What finding looks at in a record, its name by its place.
 pub struct Key {
     pub ordinal: u32,
     pub gap: u32,
@@ -21,17 +20,6 @@ pub enum Reason {
     OtherName,
     GapPresent,
     GapAbsent,
-}
-
-pub fn key_of(r: Record) -> Key
-    ensures { λ k. ⌜ k ≡ recordKey r ⌝ }
-{
-    Key {
-        ordinal: r.ordinal,
-        gap: r.gap,
-        place: r.place as usize,
-        len: r.len as usize,
-    }
 }
 
 // The gap mark against what the glyph asks of it: 0 nothing, 1 that it is not set, 2 that it is.
@@ -61,20 +49,28 @@ pub fn wide(x: u32) -> usize
     x as usize
 }
 
-// The test of one glyph of the query, the first glyph's record being on a page: page, name, gap.
-pub fn test(s: &[u8], q: &[u8], rows: &[u32], j: usize, page: u32, k: Key) -> Reason
+// The test of one glyph of the query, the first glyph's record being on a page: page, name, gap. The record's own name is a part of the
+// stream.
+pub fn test(
+    own: &[u8],
+    q: &[u8],
+    rows: &[u32],
+    j: usize,
+    page: u32,
+    ordinal: u32,
+    gap: u32,
+) -> Reason
     requires { ⌜ (length (now rows) ≡ 193) × (j < 64) ⌝ }
-    ensures { λ r. ⌜ r ≡ reasonOf (glyphTest page (wantedIn (now (q .entry)) (now (rows .entry)) j) (keyIn (now (s .entry)) k)) ⌝ }
+    ensures { λ r. ⌜ r ≡ reasonOf (glyphTest page (wantedIn (now (q .entry)) (now (rows .entry)) j) (keyBy (now (own .entry)) ordinal gap)) ⌝ }
 {
-    if k.ordinal != page {
+    if ordinal != page {
         return Reason::OtherPage;
     }
     let place = wide(rows[j]);
     let len = wide(rows[64 + j]);
-    let own = name::name_at(s, k.place, k.len);
     let wanted = name::name_at(q, place, len);
     if scan_lex::same_bytes(own, wanted) {
-        gap_test(rows[128 + j], k.gap)
+        gap_test(rows[128 + j], gap)
     } else {
         Reason::OtherName
     }
@@ -93,10 +89,18 @@ fn is_fit(r: Reason) -> bool
 }
 
 // Whether a record is the glyph numbered j, the first one being on a page.
-pub fn fits(s: &[u8], q: &[u8], rows: &[u32], j: usize, page: u32, k: Key) -> bool
+pub fn fits(
+    own: &[u8],
+    q: &[u8],
+    rows: &[u32],
+    j: usize,
+    page: u32,
+    ordinal: u32,
+    gap: u32,
+) -> bool
     requires { ⌜ (length (now rows) ≡ 193) × (j < 64) ⌝ }
-    ensures { λ r. ⌜ r ≡ passes (glyphTest page (wantedIn (now (q .entry)) (now (rows .entry)) j) (keyIn (now (s .entry)) k)) ⌝ }
+    ensures { λ r. ⌜ r ≡ passes (glyphTest page (wantedIn (now (q .entry)) (now (rows .entry)) j) (keyBy (now (own .entry)) ordinal gap)) ⌝ }
 {
-    let r = test(s, q, rows, j, page, k);
+    let r = test(own, q, rows, j, page, ordinal, gap);
     is_fit(r)
 }

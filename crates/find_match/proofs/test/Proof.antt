@@ -35,9 +35,6 @@ wide-requires-2 c κs = search glyph-tests
 name-at-requires : tie.Need-name-at-requires
 name-at-requires c κs = search glyph-tests
 
-name-at-requires-2 : tie.Need-name-at-requires-2
-name-at-requires-2 c κs = search glyph-tests
-
 same-bytes-requires : tie.Need-same-bytes-requires
 same-bytes-requires c κs = search glyph-tests
 
@@ -72,7 +69,6 @@ test-spec =
     shared-slice-read-wide-2
     wide-requires-2
     name-at-requires
-    name-at-requires-2
     same-bytes-requires
     add-gap-test
     mul-gap-test
