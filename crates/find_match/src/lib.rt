@@ -89,15 +89,7 @@ fn is_fit(r: Reason) -> bool
 }
 
 // Whether a record is the glyph numbered j, the first one being on a page.
-pub fn fits(
-    own: &[u8],
-    q: &[u8],
-    rows: &[u32],
-    j: usize,
-    page: u32,
-    ordinal: u32,
-    gap: u32,
-) -> bool
+pub fn fits(own: &[u8], q: &[u8], rows: &[u32], j: usize, page: u32, ordinal: u32, gap: u32) -> bool
     requires { ⌜ (length (now rows) ≡ 193) × (j < 64) ⌝ }
     ensures { λ r. ⌜ r ≡ passes (glyphTest page (wantedIn (now (q .entry)) (now (rows .entry)) j) (keyBy (now (own .entry)) ordinal gap)) ⌝ }
 {

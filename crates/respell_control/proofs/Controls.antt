@@ -22,23 +22,26 @@ use Rattle.scan_letters.specs.declared.Control.the-variants as X
 use Rattle.scan_letters.proofs.Control as N
 use Rattle.scan_lex.specs.At.{runEnd}
 use Rattle.respell_model.specs.Sheet.{put, putAll}
-use Rattle.respell_model.specs.Lines.{plainArg, nameArg, argsFrom, plainCount, behindWord, textAt, rawArg, lineOf}
+use Rattle.respell_model.specs.Lines.{plainArg, nameArg, argsFrom, controlCount, behindWord, textAt, rawArg, lineOf}
 use Rattle.respell_bytes.proofs.Putting.{sheet, put-kept, all-kept}
 use Rattle.respell_arguments.proofs.Behind.{behind-one, behind-all, only-one, put-one, put-nothing, by-line}
 use Rattle.respell_control.specs.Control.{Control, device, resolution, init, file, mount, plain, raw, stop}
 
 -- ---- counts, places
 
-pub plain-one : (c d : L.Control) (lo hi : ℕ) → c ≡ d → c ≡ X.Number lo hi → 1 ≡ plainCount d
-plain-one c d lo hi g e = rw (← g, e)
+pub count-one : (c d : L.Control) (lo hi : ℕ) → c ≡ d → c ≡ X.Number lo hi → 1 ≡ controlCount d
+count-one c d lo hi g e = rw (← g, e)
+
+pub count-three : (c d : L.Control) → c ≡ d → c ≡ X.Resolution → 3 ≡ controlCount d
+count-three c d g e = rw (← g, e)
 
 -- the tags of the other letters
 abbrev numberless : List ℕ
-numberless = 0 ∷ 1 ∷ 2 ∷ 3 ∷ 4 ∷ 5 ∷ 7 ∷ 8 ∷ 9 ∷ []
+numberless = 0 ∷ 2 ∷ 3 ∷ 4 ∷ 5 ∷ 7 ∷ 8 ∷ 9 ∷ []
 
-none-of : (c : L.Control) → OneOf numberless (tagOf N.the-type c) → 0 ≡ plainCount c
+none-of : (c : L.Control) → OneOf numberless (tagOf N.the-type c) → 0 ≡ controlCount c
 none-of X.Device e = refl
-none-of X.Resolution e = refl
+none-of X.Resolution e = absurd (miss numberless 1 (tt {0}) e)
 none-of X.Init e = refl
 none-of X.File e = refl
 none-of X.Mount e = refl
@@ -48,8 +51,8 @@ none-of X.Stop e = refl
 none-of X.Text e = refl
 none-of X.Unknown e = refl
 
-pub plain-none : (c d : L.Control) → c ≡ d → OneOf numberless (tagOf N.the-type c) → 0 ≡ plainCount d
-plain-none c d g e = rw (← g) (none-of c e)
+pub count-none : (c d : L.Control) → c ≡ d → OneOf numberless (tagOf N.the-type c) → 0 ≡ controlCount d
+count-none c d g e = rw (← g) (none-of c e)
 
 pub word-behind : (s : List ℕ) (at i r : ℕ) → i ≡ runEnd isSpace s (at + 1) → r ≡ runEnd isNotWhite s i → r ≡ behindWord s at
 word-behind s at i r e f = rw (f, e)
@@ -95,9 +98,9 @@ module _ (o q : List ℕ) (at r : ℕ) where
   mount-line s p p₂ a b position place len e f g =
       named-line p (plainArg position ++ nameArg s place len) a 102 e (behind-all (plainArg position) (nameArg s place len) (sheet p a) (sheet p₂ b) (sheet q r) f g)
 
-  pub numbered-line : (s p : List ℕ) (a letter from n place : ℕ) → sheet p a ≡ putAll (120 ∷ 32 ∷ letter ∷ []) (sheet o at) → from ≡ behindWord s place → sheet q r ≡ putAll (argsFrom n s from) (sheet p a)
-      → sheet q r ≡ putAll (120 ∷ 32 ∷ letter ∷ argsFrom n s (behindWord s place)) (sheet o at)
-  numbered-line s p a letter from n place e g f = rw (← g) (named-line p (argsFrom n s from) a letter e f)
+  pub numbered-line : (s p : List ℕ) (a letter from n place : ℕ) → sheet p a ≡ putAll (120 ∷ 32 ∷ letter ∷ []) (sheet o at) → from ≡ behindWord s place → n ≡ controlCount (controlOf letter) → sheet q r ≡ putAll (argsFrom n s from) (sheet p a)
+      → sheet q r ≡ putAll (120 ∷ 32 ∷ letter ∷ argsFrom (controlCount (controlOf letter)) s (behindWord s place)) (sheet o at)
+  numbered-line s p a letter from n place e g m f = rw (← g, ← m) (named-line p (argsFrom n s from) a letter e f)
 
   pub text-line : (s p : List ℕ) (a w i place e : ℕ) → sheet p a ≡ putAll (120 ∷ 32 ∷ 88 ∷ []) (sheet o at) → w ≡ behindWord s place → i ≡ runEnd isSpace s w → sheet q r ≡ putAll (rawArg s i e) (sheet p a)
       → sheet q r ≡ putAll (120 ∷ 32 ∷ 88 ∷ rawArg s (textAt s place) e) (sheet o at)
@@ -106,9 +109,9 @@ module _ (o q : List ℕ) (at r : ℕ) where
 -- ---- a control by its variant
 
 module _ (s : List ℕ) (place : ℕ) (c : Command) (o q : List ℕ) (at r : ℕ) where
-  pub by-plain : (letter next b n : ℕ) → c ≡ C.Plain letter next → b ≡ byteOf letter → n ≡ plainCount (controlOf b) → sheet q r ≡ putAll (120 ∷ 32 ∷ b ∷ argsFrom n s (behindWord s place)) (sheet o at)
+  pub by-plain : (letter next b : ℕ) → c ≡ C.Plain letter next → b ≡ byteOf letter → sheet q r ≡ putAll (120 ∷ 32 ∷ b ∷ argsFrom (controlCount (controlOf b)) s (behindWord s place)) (sheet o at)
       → sheet q r ≡ putAll (lineOf s place c) (sheet o at)
-  by-plain letter next b n g e m f = rw (g, ← e, ← m) f
+  by-plain letter next b g e f = rw (g, ← e) f
 
 -- the tags of the other commands
 abbrev others : List ℕ
@@ -135,6 +138,6 @@ is-control c (inr (inr (inr (inr (inr (inl e)))))) = let v = lives-at enum c 20 
 is-control c (inr (inr (inr (inr (inr (inr (inl e))))))) = let v = lives-at enum c 21 e in subst Control (sym (v .1)) (raw (v .0 .0))
 is-control c (inr (inr (inr (inr (inr (inr (inr e))))))) = let v = lives-at enum c 22 e in subst Control (sym (v .1)) (stop (v .0 .0))
 
-pub ruleset controls = (put-one, plain-one, plain-none, word-behind, first-none, first-some, raw-some, raw-none, control-is, named-line, mount-line, numbered-line, text-line, put-kept, all-kept, needs)
+pub ruleset controls = (put-one, count-one, count-three, count-none, word-behind, first-none, first-some, raw-some, raw-none, control-is, named-line, mount-line, numbered-line, text-line, put-kept, all-kept, needs)
 
 pub ruleset controlled = (by-line, by-plain, not-control, put-kept, all-kept, needs)

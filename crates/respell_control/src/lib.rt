@@ -8,14 +8,15 @@ ghost use lib.ListN.{length};
 ghost use Rattle.rules.specs.Bytes.{if_then_else_, is};
 ghost use Rattle.scan_letters.specs.Selected.{controlOf};
 ghost use Rattle.respell_model.specs.Sheet.{putAll};
-ghost use Rattle.respell_model.specs.Lines.{plainArg, nameArg, argsFrom, plainCount, behindWord, textAt, rawArg, lineOf};
+ghost use Rattle.respell_model.specs.Lines.{plainArg, nameArg, argsFrom, controlCount, behindWord, textAt, rawArg, lineOf};
 ghost use Rattle.respell_control.specs.Control.{Control};
 
-// How many integers a control has that changes nothing.
-fn plain_count(letter: u8) -> usize
-    ensures { λ r. ⌜ r ≡ plainCount (controlOf letter) ⌝ }
+// How many integers alone stand behind the word of a control.
+fn control_count(letter: u8) -> usize
+    ensures { λ r. ⌜ r ≡ controlCount (controlOf letter) ⌝ }
 {
     match scan_letters::control_of(letter) {
+        scan_letters::Control::Resolution => 3,
         scan_letters::Control::Number { .. } => 1,
         _ => 0,
     }
@@ -78,13 +79,14 @@ fn put_mount(out: &mut [u8], at: usize, position: u32, s: &[u8], place: usize, l
     respell_arguments::put_name_arg(out, b, s, place, len)
 }
 
-// An `x` with n integers.
-fn put_numbered(out: &mut [u8], at: usize, letter: u8, s: &[u8], place: usize, n: usize) -> usize
+// An `x` with the integers of its letter.
+fn put_numbered(out: &mut [u8], at: usize, letter: u8, s: &[u8], place: usize) -> usize
     requires { ⌜ place < length (now s) ⌝ }
-    ensures { λ r. ⌜ record { bytes = now (out .exit); at = r } ≡ putAll (120 ∷ 32 ∷ letter ∷ argsFrom n (now (s .entry)) (behindWord (now (s .entry)) place)) (record { bytes = now (out .entry); at = at }) ⌝ }
+    ensures { λ r. ⌜ record { bytes = now (out .exit); at = r } ≡ putAll (120 ∷ 32 ∷ letter ∷ argsFrom (controlCount (controlOf letter)) (now (s .entry)) (behindWord (now (s .entry)) place)) (record { bytes = now (out .entry); at = at }) ⌝ }
 {
     let a = put_control_letter(out, at, letter);
     let from = behind_word(s, place);
+    let n = control_count(letter);
     respell_arguments::put_args(out, a, s, from, n)
 }
 
@@ -105,7 +107,7 @@ pub fn put_control(out: &mut [u8], at: usize, s: &[u8], place: usize, c: Command
 {
     match c {
         Command::Device { place: p, len, .. } => put_named(out, at, 84, s, p, len),
-        Command::Resolution { .. } => put_numbered(out, at, 114, s, place, 3),
+        Command::Resolution { .. } => put_numbered(out, at, 114, s, place),
         Command::Init { .. } => put_control_letter(out, at, 105),
         Command::File { place: p, len, .. } => put_named(out, at, 70, s, p, len),
         Command::Mount {
@@ -116,7 +118,7 @@ pub fn put_control(out: &mut [u8], at: usize, s: &[u8], place: usize, c: Command
         } => put_mount(out, at, position, s, p, len),
         Command::Plain { letter, .. } => {
             let b = scan_letters::byte_of(letter);
-            put_numbered(out, at, b, s, place, plain_count(b))
+            put_numbered(out, at, b, s, place)
         }
         Command::Raw { next } => put_text(out, at, s, place, next),
         Command::Stop { .. } => put_control_letter(out, at, 115),

@@ -66,18 +66,18 @@ drawCount D.Gray k = 1
 drawCount D.Scheme k = 0
 drawCount D.Unknown k = 0
 
--- and a control that changes nothing
-abbrev pub plainCount : Control → ℕ
-plainCount X.Device = 0
-plainCount X.Resolution = 0
-plainCount X.Init = 0
-plainCount X.File = 0
-plainCount X.Mount = 0
-plainCount X.Bare = 0
-plainCount (X.Number lo hi) = 1
-plainCount X.Stop = 0
-plainCount X.Text = 0
-plainCount X.Unknown = 0
+-- how many integers alone stand behind the word of a control
+abbrev pub controlCount : Control → ℕ
+controlCount X.Device = 0
+controlCount X.Resolution = 3
+controlCount X.Init = 0
+controlCount X.File = 0
+controlCount X.Mount = 0
+controlCount X.Bare = 0
+controlCount (X.Number lo hi) = 1
+controlCount X.Stop = 0
+controlCount X.Text = 0
+controlCount X.Unknown = 0
 
 -- ---- places in a command that begins at a place
 
@@ -124,7 +124,7 @@ lineOf s at (C.Resolution q n) = bytes "x r" ++ argsFrom 3 s (behindWord s at)
 lineOf s at (C.Init n) = bytes "x i"
 lineOf s at (C.File p l n) = bytes "x F" ++ nameArg s p l
 lineOf s at (C.Mount i p l n) = bytes "x f" ++ (plainArg i ++ nameArg s p l)
-lineOf s at (C.Plain b n) = 120 ∷ 32 ∷ byteOf b ∷ argsFrom (plainCount (controlOf (byteOf b))) s (behindWord s at)
+lineOf s at (C.Plain b n) = 120 ∷ 32 ∷ byteOf b ∷ argsFrom (controlCount (controlOf (byteOf b))) s (behindWord s at)
 lineOf s at (C.Raw n) = bytes "x X" ++ rawArg s (textAt s at) n
 lineOf s at (C.Stop n) = bytes "x s"
 lineOf s at (C.Refused i p) = []

@@ -1,6 +1,14 @@
 use Rattle.respell_control.proofs.Controls.{controlled}
 use Rattle.respell_control.proofs.put_control.Statement.{statement}
 use Rattle.respell_control.proofs.put_control.Tie as tie
+use Rattle.respell_control.proofs.put_control.Reads as reads
+use Rattle.respell_control.proofs.put_control.Lts as lts
+use Rattle.respell_control.proofs.put_control_letter.Reads as put-control-letter-reads
+use Rattle.respell_control.proofs.put_mount.Reads as put-mount-reads
+use Rattle.respell_control.proofs.put_named.Reads as put-named-reads
+use Rattle.respell_control.proofs.put_numbered.Reads as put-numbered-reads
+use Rattle.respell_control.proofs.put_text.Reads as put-text-reads
+use Rattle.scan_letters.proofs.byte_of.Reads as byte-of-reads
 
 enum-known-c : tie.Need-enum-known-c
 enum-known-c c = search controlled
@@ -37,9 +45,6 @@ enum-known-c-4 c = search controlled
 
 byte-of-requires : tie.Need-byte-of-requires
 byte-of-requires c κs = search controlled
-
-plain-count-requires : tie.Need-plain-count-requires
-plain-count-requires c κs = search controlled
 
 put-numbered-requires-2 : tie.Need-put-numbered-requires-2
 put-numbered-requires-2 c κs = search controlled
@@ -123,7 +128,6 @@ put-control-spec =
     put-mount-requires
     enum-known-c-4
     byte-of-requires
-    plain-count-requires
     put-numbered-requires-2
     enum-known-c-5
     put-text-requires
