@@ -24,11 +24,11 @@ try() {
     printf '%s\n' "${text/"$old"/"$new"}" > "$repo/$file"
     log=$( (cd "$repo" && RT_JOBS=1 rt check "$(basename "${place%/proofs/*}")" 2>&1) ) && { echo "not refused"; return; }
     if [ -n "${EDIT_LOGS:-}" ]; then printf '%s\n' "$log" > "$EDIT_LOGS/$(basename "$edit" .edit).log"; fi
-    case $log in
-        *"$repo/$file"*" error"*) echo "the definition itself is refused" ;;
-        *"$repo/$place"*" error"*) ;;
-        *) echo "refused elsewhere: $(printf '%s\n' "$log" | grep -m 1 ' error' | cut -c 1-200)" ;;
-    esac
+    if grep -q "^$repo/$file:.* error" <<< "$log"; then
+        echo "the definition itself is refused"
+    elif ! grep -q "^$repo/$place:.* error" <<< "$log"; then
+        echo "refused elsewhere: $(grep -m 1 ' error' <<< "$log" | cut -c 1-200)"
+    fi
 }
 
 # Tries one edit in a copy of its own and prints a line about it.
