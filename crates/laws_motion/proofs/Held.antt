@@ -25,7 +25,7 @@ use Rattle.laws_motion.specs.Records.{OneRecord, mayRecord, Recorded, dr
 -- ---- the sign of a number
 
 -- not below 0: the number itself
-shown-pos : (n i : ℕ) → shown n ≡ pos i → (ltb n origin ≡ false) × (n - origin ≡ i)
+pub shown-pos : (n i : ℕ) → shown n ≡ pos i → (ltb n origin ≡ false) × (n - origin ≡ i)
 shown-pos n i h = on (ltb n origin) (λ k. absurd (pos-ne-negsuc _ _ (sym (rw k at h)))) (λ k. (k, ap natAbs (rw k at h)))
 
 shown-neg : (n i : ℕ) → shown n ≡ negsuc i → ltb n origin ≡ true
