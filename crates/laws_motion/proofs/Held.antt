@@ -259,8 +259,8 @@ each-set e (font n) =
     (λ t. (inl (refl, refl), inr (inl refl), inl refl, inl refl, inl refl, inl refl, inl refl, inl refl))
 each-set e (size n) = (inl (refl, refl), inl refl, inr (inl refl), inl refl, inl refl, inl refl, inl refl, inl refl)
 each-set e (colour c ns) = (inl (refl, refl), inl refl, inl refl, inl refl, inr (inl refl), inl refl, inl refl, inl refl)
-each-set e break = gap-set e 1
-each-set e space = gap-set e 1
+each-set e break = (inl (refl, refl), inl refl, inl refl, inr (inl refl), inl refl, inl refl, inl refl, inl refl)
+each-set e space = (inl (refl, refl), inl refl, inl refl, inr (inl refl), inl refl, inl refl, inl refl, inl refl)
 each-set e (draw s ns) = if-after (λ d gs xs. Each (mayFill s) e d) (mayGo (e .spot) (wayOf s ns)) _ 10 (λ t. drawn e s ns (spotAfter (e .spot) (wayOf s ns)))
 each-set e (device n) = none-set e (e .spot) 1
 each-set e (resolution n h v) = (inl (refl, refl), inl refl, inl refl, inl refl, inl refl, inl refl, inl refl, inr (inl refl))
