@@ -1,26 +1,31 @@
 -- What records, entries and the reader's answer hold.
-use Prim.Native.Nat.{ℕ, _-_}
+use Prim.Native.Nat.{ℕ, zero, suc, _+_, _*_, _-_, _/_, _<_, _≤_}
 use Prim.Native.Char.{code}
 use native.Mathlib.Numerals.{add-one}
-use mathlib.Core.Bool.{true, false}
+use native.Mathlib.Omega.{arith}
+use mathlib.Core.Bool.{Bool, true, false}
 use mathlib.Core.List.{List, [], _∷_}
+use mathlib.Core.Logic.{_⊎_, inl, inr, ⊎-elim}
 use mathlib.Core.Option.{some}
-use mathlib.Core.Path.{_≡_, refl, sym, ap, _∙_}
-use lib.Dec.{ltb}
+use mathlib.Core.Path.{_≡_, refl, sym, ap, ap₂, _∙_}
+use lib.Dec.{leb, ltb}
 use lib.IntN.{ℤ, pos, negsuc, natAbs, pos-ne-negsuc}
+use lib.ListN.{getD, drop, replicate}
+use lib.Seq.{getD-set-same, getD-set-other}
+use borrow.Author.Tests.{le-leb, lt-leb, ltb-true, ltb-false}
 use Rattle.rules.specs.Bytes.{origin, bytes}
 use Rattle.rules.specs.Act.{Scheme, cmy, default, gray, cmyk, rgb, Shape, line, arc, circle, solidCircle, ellipse, solidEllipse, polygon, solidPolygon, spline, thickness, grayFill, colourFill, Plain, pause, trailer, height, slant, underline, Act, glyph, index, to, by, page, font, size, colour, break, space, draw, device, resolution, init, file, mount, plain, raw, stop}
 use Rattle.rules.specs.Drawing.{wayOf}
-use Rattle.rules.specs.State.{Paint, Env, get, fits, mayGo, mountedAt, isMounted, itemAt, item, newPage, recorded, indexed, effect}
+use Rattle.rules.specs.State.{Spot, Paint, Env, setPhase, setSpot, setGap, setFillPaint, get, put, plus, fits, spotAfter, mayGo, padded, painted, filled, mountedAt, isMounted, itemAt, item, newPage, recorded, indexed, effect}
 use Rattle.rules.specs.Record.{shown, lettersOf, schemeLetter, colourOf}
 use Rattle.laws.proofs.Cases.{on, no}
 use Rattle.laws_motion.proofs.Steps.{After, if-after, font-after, behind}
-use Rattle.laws_motion.specs.Records.{OneRecord, mayRecord, Recorded, drawingLetters, plainLetters, letters, three, placeIn, OneEntry, isSome, Entered, NewPage, isPage, Settings, schemeChar, ColourHolds, AnswerHolds}
+use Rattle.laws_motion.specs.Records.{OneRecord, mayRecord, Recorded, drawingLetters, plainLetters, letters, three, placeIn, OneEntry, isSome, Entered, NewPage, PaintIs, StandFor, Setting, thePage, theFont, theSize, theGap, theGlyphColour, theFillColour, theMounts, theQuantum, Stays, mayFill, maySet, Among, Settings, schemeChar, ColourHolds, AnswerHolds}
 
 -- ---- the sign of a number
 
 -- not below 0: the number itself
-shown-pos : (n i : ℕ) → shown n ≡ pos i → (ltb n origin ≡ false) × (n - origin ≡ i)
+pub shown-pos : (n i : ℕ) → shown n ≡ pos i → (ltb n origin ≡ false) × (n - origin ≡ i)
 shown-pos n i h = on (ltb n origin) (λ k. absurd (pos-ne-negsuc _ _ (sym (rw k at h)))) (λ k. (k, ap natAbs (rw k at h)))
 
 shown-neg : (n i : ℕ) → shown n ≡ negsuc i → ltb n origin ≡ true
@@ -198,44 +203,170 @@ entered-holds = record {
   no-other = λ e e′ gs xs a h k. behind (λ d g x. x ≡ []) e e′ gs xs a (no-entry e a h) k;
 }
 
--- ---- page, font and size
+-- ---- what stays
+
+-- of each setting: it stays, or it is among those that may change
+abbrev Each : List Setting → Env → Env → Type 0
+Each ks e d =
+    (Stays thePage e d ⊎ Among thePage ks) × (Stays theFont e d ⊎ Among theFont ks) × (Stays theSize e d ⊎ Among theSize ks) × (Stays theGap e d ⊎ Among theGap ks)
+    × (Stays theGlyphColour e d ⊎ Among theGlyphColour ks) × (Stays theFillColour e d ⊎ Among theFillColour ks) × (Stays theMounts e d ⊎ Among theMounts ks) × (Stays theQuantum e d ⊎ Among theQuantum ks)
+
+each-stays : (ks : List Setting) (e d : Env) → Each ks e d → (k : Setting) → (Among k ks → ⊥) → Stays k e d
+each-stays ks e d f k h = go k (λ x. absurd (h x))
+  where
+    go : (k : Setting) → (Among k ks → Stays k e d) → Stays k e d
+    go thePage g = ⊎-elim (λ x. x) g (f .0)
+    go theFont g = ⊎-elim (λ x. x) g (f .1)
+    go theSize g = ⊎-elim (λ x. x) g (f .2)
+    go theGap g = ⊎-elim (λ x. x) g (f .3)
+    go theGlyphColour g = ⊎-elim (λ x. x) g (f .4)
+    go theFillColour g = ⊎-elim (λ x. x) g (f .5)
+    go theMounts g = ⊎-elim (λ x. x) g (f .6)
+    go theQuantum g = ⊎-elim (λ x. x) g (f .7)
+
+-- the place and the prologue aside nothing changes; or the gap mark alone
+none-set : (e : Env) (p : Spot) (n : ℕ) → Each [] e (setPhase (setSpot e p) n)
+none-set e p n = (inl (refl, refl), inl refl, inl refl, inl refl, inl refl, inl refl, inl refl, inl refl)
+
+gap-set : (e : Env) (g : ℕ) → Each (theGap ∷ []) e (setGap e g)
+gap-set e g = (inl (refl, refl), inl refl, inl refl, inr (inl refl), inl refl, inl refl, inl refl, inl refl)
+
+drawn : (e : Env) (s : Shape) (ns : List ℕ) (p : Spot) → Each (mayFill s) e (setFillPaint (setSpot e p) (filled e s ns))
+drawn e s ns p = (inl (refl, refl), inl refl, inl refl, inl refl, inl refl, go s, inl refl, inl refl)
+  where
+    go : (s : Shape) → (filled e s ns ≡ e .fillPaint) ⊎ Among theFillColour (mayFill s)
+    go line = inl refl
+    go arc = inl refl
+    go circle = inl refl
+    go solidCircle = inl refl
+    go ellipse = inl refl
+    go solidEllipse = inl refl
+    go polygon = inl refl
+    go solidPolygon = inl refl
+    go spline = inl refl
+    go thickness = inl refl
+    go grayFill = inr (inl refl)
+    go (colourFill c) = inr (inl refl)
+
+each-set : (e : Env) (a : Act) → After (λ d gs xs. Each (maySet a) e d) (effect e a)
+each-set e (glyph n) = font-after (λ d gs xs. Each (theGap ∷ []) e d) e (recorded e n 0) (e .font) refl (λ f k. gap-set e 0)
+each-set e (index n) = font-after (λ d gs xs. Each (theGap ∷ []) e d) e (indexed e n) (e .font) refl (λ f k. on (ltb n origin) (λ j. rw j (gap-set e 1)) (λ j. rw j (gap-set e 0)))
+each-set e (to x n) = none-set e (put x n (e .spot)) (e .phase)
+each-set e (by x n) = if-after (λ d gs xs. Each [] e d) (fits (get x (e .spot)) n) _ 10 (λ t. none-set e (put x (plus (get x (e .spot)) n) (e .spot)) (e .phase))
+each-set e (page n) = (inr (inl refl), inl refl, inl refl, inr (inr (inl refl)), inl refl, inl refl, inl refl, inl refl)
+each-set e (font n) =
+    if-after (λ d gs xs. Each (theFont ∷ []) e d) (isMounted (mountedAt (n - origin) (e .mounts))) _ 8
+    (λ t. (inl (refl, refl), inr (inl refl), inl refl, inl refl, inl refl, inl refl, inl refl, inl refl))
+each-set e (size n) = (inl (refl, refl), inl refl, inr (inl refl), inl refl, inl refl, inl refl, inl refl, inl refl)
+each-set e (colour c ns) = (inl (refl, refl), inl refl, inl refl, inl refl, inr (inl refl), inl refl, inl refl, inl refl)
+each-set e break = (inl (refl, refl), inl refl, inl refl, inr (inl refl), inl refl, inl refl, inl refl, inl refl)
+each-set e space = (inl (refl, refl), inl refl, inl refl, inr (inl refl), inl refl, inl refl, inl refl, inl refl)
+each-set e (draw s ns) = if-after (λ d gs xs. Each (mayFill s) e d) (mayGo (e .spot) (wayOf s ns)) _ 10 (λ t. drawn e s ns (spotAfter (e .spot) (wayOf s ns)))
+each-set e (device n) = none-set e (e .spot) 1
+each-set e (resolution n h v) = (inl (refl, refl), inl refl, inl refl, inl refl, inl refl, inl refl, inl refl, inr (inl refl))
+each-set e init = none-set e (e .spot) 3
+each-set e (file n) = none-set e (e .spot) (e .phase)
+each-set e (mount n m) = (inl (refl, refl), inl refl, inl refl, inl refl, inl refl, inl refl, inr (inl refl), inl refl)
+each-set e (plain c ns) = none-set e (e .spot) (e .phase)
+each-set e (raw t) = none-set e (e .spot) (e .phase)
+each-set e stop = none-set e (e .spot) 4
+
+-- ---- what is set
 
 turned : (e : Env) (n : ℕ) → NewPage e (newPage e n) n
 turned e n = record { ordinal = add-one (e .ordinal); number = refl; font-stays = refl; size-stays = refl; glyph-colour-stays = refl; fill-colour-stays = refl; gap-set = refl }
 
-same-page : (e : Env) (a : Act) → isPage a ≡ false → After (λ d gs xs. (d .ordinal ≡ e .ordinal) × (d .number ≡ e .number)) (effect e a)
-same-page e (glyph n) h = font-after (λ d gs xs. (d .ordinal ≡ e .ordinal) × (d .number ≡ e .number)) e (recorded e n 0) (e .font) refl (λ f k. (refl, refl))
-same-page e (index n) h =
-    font-after (λ d gs xs. (d .ordinal ≡ e .ordinal) × (d .number ≡ e .number)) e (indexed e n) (e .font) refl
-    (λ f k. on (ltb n origin) (λ j. rw j (refl, refl)) (λ j. rw j (refl, refl)))
-same-page e (to x n) h = (refl, refl)
-same-page e (by x n) h = if-after (λ d gs xs. (d .ordinal ≡ e .ordinal) × (d .number ≡ e .number)) (fits (get x (e .spot)) n) _ 10 (λ t. (refl, refl))
-same-page e (page n) h = no (sym h)
-same-page e (font n) h = if-after (λ d gs xs. (d .ordinal ≡ e .ordinal) × (d .number ≡ e .number)) (isMounted (mountedAt (n - origin) (e .mounts))) _ 8 (λ t. (refl, refl))
-same-page e (size n) h = (refl, refl)
-same-page e (colour c ns) h = (refl, refl)
-same-page e break h = (refl, refl)
-same-page e space h = (refl, refl)
-same-page e (draw s ns) h = if-after (λ d gs xs. (d .ordinal ≡ e .ordinal) × (d .number ≡ e .number)) (mayGo (e .spot) (wayOf s ns)) _ 10 (λ t. (refl, refl))
-same-page e (device n) h = (refl, refl)
-same-page e (resolution n m v) h = (refl, refl)
-same-page e init h = (refl, refl)
-same-page e (file n) h = (refl, refl)
-same-page e (mount n m) h = (refl, refl)
-same-page e (plain c ns) h = (refl, refl)
-same-page e (raw t) h = (refl, refl)
-same-page e stop h = (refl, refl)
-
 font-set : (e : Env) (n i : ℕ) → shown n ≡ pos i → After (λ d gs xs. d .font ≡ some i) (effect e (font n))
 font-set e n i h = if-after (λ d gs xs. d .font ≡ some i) (isMounted (mountedAt (n - origin) (e .mounts))) _ 8 (λ t. ap some (shown-pos n i h .1))
+
+unmarked : (e : Env) (n : List ℕ) → After (λ d gs xs. d .gap ≡ 0) (effect e (glyph n))
+unmarked e n = font-after (λ d gs xs. d .gap ≡ 0) e (recorded e n 0) (e .font) refl (λ f k. refl)
+
+index-unmarked : (e : Env) (n i : ℕ) → shown n ≡ pos i → After (λ d gs xs. d .gap ≡ 0) (effect e (index n))
+index-unmarked e n i h = font-after (λ d gs xs. d .gap ≡ 0) e (indexed e n) (e .font) refl (λ f k. rw (shown-pos n i h .0) refl)
+
+-- ---- colours
+
+-- a list of integers taken apart
+isEmpty : List ℤ → Bool
+isEmpty [] = true
+isEmpty (z ∷ zs) = false
+
+first : List ℤ → ℤ
+first [] = pos 0
+first (z ∷ zs) = z
+
+-- so many numbers, 0 where there is none
+abbrev firsts : ℕ → List ℕ → List ℕ
+firsts zero is = []
+firsts (suc k) [] = 0 ∷ firsts k []
+firsts (suc k) (i ∷ is) = i ∷ firsts k is
+
+padded-is : (k : ℕ) (ns is : List ℕ) → StandFor ns is → padded k ns ≡ firsts k is
+unfolding isEmpty first
+padded-is zero ns is h = refl
+padded-is (suc k) [] [] h = ap (λ (y : List ℕ). 0 ∷ y) (padded-is k [] [] refl)
+padded-is (suc k) [] (i ∷ is) h = no (sym (ap isEmpty h))
+padded-is (suc k) (n ∷ ns) [] h = no (ap isEmpty h)
+padded-is (suc k) (n ∷ ns) (i ∷ is) h = ap₂ (λ (x : ℕ) (y : List ℕ). x ∷ y) (shown-pos n i (ap first h) .1) (padded-is k ns is (ap (drop 1) h))
+
+four : (is : List ℕ) → firsts 4 is ≡ getD is 0 0 ∷ getD is 1 0 ∷ getD is 2 0 ∷ getD is 3 0 ∷ []
+four [] = refl
+four (a ∷ []) = refl
+four (a ∷ b ∷ []) = refl
+four (a ∷ b ∷ c ∷ []) = refl
+four (a ∷ b ∷ c ∷ d ∷ r) = refl
+
+painted-is : (c : Scheme) (ns is : List ℕ) → StandFor ns is → PaintIs c is (painted c ns)
+painted-is c ns is h = record { scheme = refl; components = padded-is 4 ns is h ∙ four is }
+
+-- the fill colour behind a drawing
+fill-after : (P : Paint → Type 0) (e : Env) (s : Shape) (ns : List ℕ) → P (filled e s ns) → After (λ d gs xs. P (d .fillPaint)) (effect e (draw s ns))
+fill-after P e s ns h = if-after (λ d gs xs. P (d .fillPaint)) (mayGo (e .spot) (wayOf s ns)) _ 10 (λ t. h)
+
+module _ (e : Env) (n i : ℕ) where
+  gray-in : shown n ≡ pos i → i ≤ 1000 → PaintIs gray (((1000 - i) * 65536 / 1000) ∷ []) (filled e grayFill (n ∷ []))
+  gray-in h l =
+      let k : (ltb n origin ≡ false) × (n - origin ≡ i) = shown-pos n i h in
+      rw (le-leb origin n (ltb-false n origin (k .0)), le-leb n (origin + 1000) (omega (arith, ltb-false n origin (k .0), k .1)), k .1) (record { scheme = refl; components = refl })
+
+  gray-above : shown n ≡ pos i → 1000 < i → filled e grayFill (n ∷ []) ≡ e .glyphPaint
+  gray-above h l =
+      let k : (ltb n origin ≡ false) × (n - origin ≡ i) = shown-pos n i h in
+      rw (le-leb origin n (ltb-false n origin (k .0)), lt-leb n (origin + 1000) (omega (arith, ltb-false n origin (k .0), k .1)))
+
+  gray-below : shown n ≡ negsuc i → filled e grayFill (n ∷ []) ≡ e .glyphPaint
+  gray-below h = rw (lt-leb origin n (ltb-true n origin (shown-neg n i h)))
+
+-- ---- mounts
+
+no-mount : (k i : ℕ) → mountedAt i (replicate k []) ≡ []
+no-mount zero i = refl
+no-mount (suc k) zero = refl
+no-mount (suc k) (suc i) = no-mount k i
 
 pub settings-hold : Settings
 settings-hold = record {
   starts = (refl, refl, refl, refl, refl);
+  starts-glyph-colour = record { scheme = refl; components = refl };
+  starts-fill-colour = record { scheme = refl; components = refl };
+  starts-unmounted = no-mount 256;
+  stays = λ e e′ gs xs a k h q. each-stays (maySet a) e e′ (behind (λ d g x. Each (maySet a) e d) e e′ gs xs a (each-set e a) q) k h;
   turns = λ e e′ gs xs n k. behind (λ d g x. NewPage e d n) e e′ gs xs (page n) (turned e n) k;
-  page-stays = λ e e′ gs xs a h k. behind (λ d g x. (d .ordinal ≡ e .ordinal) × (d .number ≡ e .number)) e e′ gs xs a (same-page e a h) k;
   sets-font = λ e e′ gs xs n i h k. behind (λ d g x. d .font ≡ some i) e e′ gs xs (font n) (font-set e n i h) k;
   sets-size = λ e e′ gs xs n i h k. behind (λ d g x. d .size ≡ i) e e′ gs xs (size n) (shown-pos n i h .1) k;
+  sets-quantum = λ e e′ gs xs n h v i q k. behind (λ d g x. d .quantum ≡ i) e e′ gs xs (resolution n h v) (shown-pos h i q .1) k;
+  sets-glyph-colour = λ e e′ gs xs c ns is h k. behind (λ d g x. PaintIs c is (d .glyphPaint)) e e′ gs xs (colour c ns) (painted-is c ns is h) k;
+  sets-fill-colour = λ e e′ gs xs c ns is h k. behind (λ d g x. PaintIs c is (d .fillPaint)) e e′ gs xs (draw (colourFill c) ns) (fill-after (PaintIs c is) e (colourFill c) ns (painted-is c ns is h)) k;
+  sets-gray = λ e e′ gs xs n i h l k. behind (λ d g x. PaintIs gray (((1000 - i) * 65536 / 1000) ∷ []) (d .fillPaint)) e e′ gs xs (draw grayFill (n ∷ [])) (fill-after (PaintIs gray _) e grayFill (n ∷ []) (gray-in e n i h l)) k;
+  gray-above = λ e e′ gs xs n i h l k. behind (λ d g x. d .fillPaint ≡ e .glyphPaint) e e′ gs xs (draw grayFill (n ∷ [])) (fill-after (λ p. p ≡ e .glyphPaint) e grayFill (n ∷ []) (gray-above e n i h l)) k;
+  gray-below = λ e e′ gs xs n i h k. behind (λ d g x. d .fillPaint ≡ e .glyphPaint) e e′ gs xs (draw grayFill (n ∷ [])) (fill-after (λ p. p ≡ e .glyphPaint) e grayFill (n ∷ []) (gray-below e n i h)) k;
+  mounts = λ e e′ gs xs n i m h l k. behind (λ d g x. mountedAt i (d .mounts) ≡ m) e e′ gs xs (mount n m) (rw (shown-pos n i h .1) (getD-set-same (e .mounts) i m [] l)) k;
+  mounts-no-other = λ e e′ gs xs n i j m h l k. behind (λ d g x. mountedAt j (d .mounts) ≡ mountedAt j (e .mounts)) e e′ gs xs (mount n m) (rw (shown-pos n i h .1) (getD-set-other (e .mounts) i j m [] l)) k;
+  w-marks = λ e e′ gs xs k. behind (λ d g x. d .gap ≡ 1) e e′ gs xs space refl k;
+  n-marks = λ e e′ gs xs k. behind (λ d g x. d .gap ≡ 1) e e′ gs xs break refl k;
+  name-unmarks = λ e e′ gs xs n k. behind (λ d g x. d .gap ≡ 0) e e′ gs xs (glyph n) (unmarked e n) k;
+  index-unmarks = λ e e′ gs xs n i h k. behind (λ d g x. d .gap ≡ 0) e e′ gs xs (index n) (index-unmarked e n i h) k;
 }
 
 -- ---- the end

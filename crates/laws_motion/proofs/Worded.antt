@@ -17,7 +17,7 @@ use Rattle.rules.specs.Record.{shown}
 use Rattle.laws.proofs.Cases.{on, no}
 use Rattle.laws_motion.proofs.Steps.{isRefused, After, if-after, font-after, act-after, after-map, then-after}
 use Rattle.laws_motion.proofs.Moved.{by-place, by-in, by-not, clash}
-use Rattle.laws_motion.specs.Motions.{sum, InLimit, Nearest, Advances, Grows, hAt, hAfter, SomeBeyond, glyphH, glyphV, WordMoved, WordRefused, Words}
+use Rattle.laws_motion.specs.Motions.{sum, InLimit, Beyond, Nearest, Advances, Grows, hAt, hAfter, SomeBeyond, glyphH, glyphV, WordMoved, WordRefused, Words}
 
 -- ---- the advance
 
@@ -268,10 +268,36 @@ pair-moved w e n b =
     then-after _ (act (moved-by e n) (glyph (b ∷ []))) (λ d. run d [])
     (act-after _ (moved-by e n) (glyph (b ∷ [])) (font-after _ (moved-by e n) (recorded (moved-by e n) (b ∷ []) 0) (e .font) refl (λ p q. (ap (λ (y : ℤ). y ∷ []) z, refl, z, refl))))))))
 
+-- 10 exactly where h would be beyond the limit, for two digits that may stand
+pair-exactly : (e : Env) (n b : ℕ) → Ready e
+    → (Beyond (shown (e .spot .h) +ℤ shown n) → run e (by across n ∷ glyph (b ∷ []) ∷ []) ≡ refused 10) × (run e (by across n ∷ glyph (b ∷ []) ∷ []) ≡ refused 10 → Beyond (shown (e .spot .h) +ℤ shown n))
+unfolding run act
+pair-exactly e n b r =
+    on (fits (e .spot .h) n)
+    (λ k. (
+      (λ o. absurd (clash (shown (e .spot .h) +ℤ shown n) (by-in (e .spot .h) n k) o)),
+      λ q. no (sym (ap isRefused (sym (rw (r .2, k, r .2, r .1, r .3) at q)))),
+    ))
+    (λ k. ((λ o. rw (r .2, k)), λ q. by-not (e .spot .h) n k))
+
+pair-refused : (w : Widths) (e : Env) (n b : ℕ) (ys : List Act) → acts w e (pair n b) ≡ these ys
+    → (Beyond (shown (e .spot .h) +ℤ shown n) → perform e (acts w e (pair n b)) ≡ refused 10) × (perform e (acts w e (pair n b)) ≡ refused 10 → Beyond (shown (e .spot .h) +ℤ shown n))
+unfolding isThese
+pair-refused w e n b ys q = go (e .font) refl q
+  where
+    go : (o : Option ℕ) → e .font ≡ o → ready e (λ f. these (by across n ∷ glyph (b ∷ []) ∷ [])) o ≡ these ys
+        → (Beyond (shown (e .spot .h) +ℤ shown n) → perform e (ready e (λ f. these (by across n ∷ glyph (b ∷ []) ∷ [])) o) ≡ refused 10) × (perform e (ready e (λ f. these (by across n ∷ glyph (b ∷ []) ∷ [])) o) ≡ refused 10 → Beyond (shown (e .spot .h) +ℤ shown n))
+    go none k t = on (onPage e) (λ p. no (ap isThese (rw p at t))) (λ p. no (ap isThese (rw p at t)))
+    go (some f) k t =
+        on (onPage e)
+        (λ p. on (ltb 0 (e .size)) (λ s. rw (p, s) (pair-exactly e n b (f, k, p, s))) (λ s. no (ap isThese (rw (p, s) at t))))
+        (λ p. no (ap isThese (rw p at t)))
+
 pub words-hold : Words
 words-hold = record {
   t-number = refl;
   moved-on = λ w e e′ gs xs n bs k. rw k at (word-moved w e n bs);
   refusal-10 = word-refused;
   two-digits = λ w e e′ gs xs n b k. rw k at (pair-moved w e n b);
+  two-digits-10 = pair-refused;
 }

@@ -1,2 +1,3 @@
 pub mod Records
 pub mod Motions
+pub mod Runs

@@ -1,19 +1,19 @@
 -- Document 01, motions over the integers: of every command that moves, the place afterwards is the place before plus the numbers that the
 -- command has, each as the integer that its text says, so that nobody has to believe the numbers that are moved up. `hBehind` and
--- `vBehind` are 01's tables again, apart from those of the rules (`wayOf`, `plus`, `plusAll`). Proofs: `Moved`, `Worded` and `Runs`.
+-- `vBehind` are 01's tables again, apart from those of the rules (`wayOf`, `plus`, `plusAll`). Proofs: `Moved` and `Worded`. That
+-- what they ask for holds in every run: `Runs`.
 use Prim.Native.Nat.{ℕ, _+_, _*_, _-_, _<_, _≤_}
 use mathlib.Core.Bool.{true}
-use mathlib.Core.List.{List, [], _∷_, _++_, map}
+use mathlib.Core.List.{List, [], _∷_, map}
 use mathlib.Core.Logic.{_⊎_}
 use mathlib.Core.Option.{some}
 use mathlib.Core.Path.{_≡_}
 use lib.IntN.{ℤ, pos, negℤ, natAbs, _+ℤ_}
 use lib.ListN.{length, getD}
 use Rattle.rules.specs.Bytes.{if_then_else_, origin, Num, moved, near}
-use Rattle.rules.specs.Act.{across, down, Shape, line, arc, circle, solidCircle, ellipse, solidEllipse, polygon, solidPolygon, spline, thickness, grayFill, colourFill, Act, glyph, index, to, by, page, font, size, colour, break, space, draw, device, resolution, init, file, mount, plain, raw, stop, Cmd, just, word, pair}
-use Rattle.rules.specs.Scan.{commands, bare}
+use Rattle.rules.specs.Act.{across, down, Shape, line, arc, circle, solidCircle, ellipse, solidEllipse, polygon, solidPolygon, spline, thickness, grayFill, colourFill, Act, glyph, index, to, by, page, font, size, colour, break, space, draw, device, resolution, init, file, mount, plain, raw, stop, word, pair}
 use Rattle.rules.specs.Widths.{Widths, widthOf, advance}
-use Rattle.rules.specs.State.{Env, start, Glyph, Item, mountedAt, due, refused, went, act, these, acts, perform, steps}
+use Rattle.rules.specs.State.{Env, Glyph, Item, mountedAt, due, refused, went, act, these, acts, perform}
 use Rattle.rules.specs.Record.{shown}
 
 -- ---- "Its magnitude is at most 99,999,999"; "h or v beyond 99,999,999 either way"
@@ -23,6 +23,10 @@ InLimit z = natAbs z ≤ 99_999_999
 
 abbrev pub Beyond : ℤ → Type 0
 Beyond z = 99_999_999 < natAbs z
+
+-- a number from lo to hi, none of them below 0
+abbrev pub FromTo : ℕ → ℕ → ℕ → Type 0
+FromTo lo hi n = (i : ℕ) × (shown n ≡ pos i) × (lo ≤ i) × (i ≤ hi)
 
 -- what a sign and a magnitude say
 abbrev pub textSays : Num → ℤ
@@ -159,7 +163,8 @@ vBehind stop v = v
 
 -- ---- one act
 
--- what its text makes sure of: a drawing has its arguments, the number of `H` and `V` is within its limit
+-- what its text makes sure of: a drawing has its arguments, the number of `H` and `V` is within its limit, the second number of `x r` is
+-- "at least 1"
 abbrev pub AsWritten : Act → Type 0
 AsWritten (glyph n) = Unit {0}
 AsWritten (index n) = Unit {0}
@@ -173,7 +178,7 @@ AsWritten break = Unit {0}
 AsWritten space = Unit {0}
 AsWritten (draw s ns) = Arguments s ns
 AsWritten (device n) = Unit {0}
-AsWritten (resolution n h v) = Unit {0}
+AsWritten (resolution n h v) = FromTo 1 99_999_999 h
 AsWritten init = Unit {0}
 AsWritten (file n) = Unit {0}
 AsWritten (mount n m) = Unit {0}
@@ -204,7 +209,7 @@ pub record Refusal10 : Type 0 where
 -- ---- "Widths": the advance
 
 -- "The advance for width w, size s, unitwidth k and `x r` second number m is the multiple of m nearest to w*s/k, a tie going up (house)":
--- a is less than m/2 below w*s/k and at most m/2 above it, here times 2*k. (k is "1..100000", m "at least 1".)
+-- a is less than m/2 below w*s/k and at most m/2 above it, here times 2*k. (k is "1..100000", m "at least 1": `Runs`.)
 pub record Nearest (w s k m a : ℕ) : Type 0 where
   pub factor : ℕ
   pub multiple : a ≡ m * factor
@@ -275,16 +280,6 @@ pub record Words : Type 0 where
   -- "two digits, glyph byte: h grows by the two-digit number, then the glyph"
   pub two-digits : (w : Widths) (e e′ : Env) (gs : List Glyph) (xs : List Item) (n b : ℕ) → perform e (acts w e (pair n b)) ≡ went e′ gs xs
       → (map glyphH gs ≡ (shown (e .spot .h) +ℤ shown n) ∷ []) × (map glyphV gs ≡ shown (e .spot .v) ∷ []) × (shown (e′ .spot .h) ≡ shown (e .spot .h) +ℤ shown n) × (shown (e′ .spot .v) ≡ shown (e .spot .v))
-
--- ---- every run
-
--- The hypotheses above hold of every command of every stream: the command is as its text makes sure of, and the place before it is within
--- the limit. cs are the commands before it.
-abbrev pub CmdWritten : Cmd → Type 0
-CmdWritten (just a) = AsWritten a
-CmdWritten (word n bs) = InLimit (shown n)
-CmdWritten (pair n b) = Unit {0}
-
-abbrev pub InEveryRun : Type 0
-InEveryRun = (w : Widths) (s : List ℕ) (cs ds : List Cmd) (c : Cmd) (e : Env) (gs : List Glyph) (xs : List Item)
-    → bare (commands 0 0 s) ≡ cs ++ c ∷ ds → steps w start cs ≡ went e gs xs → CmdWritten c × Inside e
+  -- "beyond 99,999,999 either way after a command": 10 exactly there, once 7 and 8 are not against it
+  pub two-digits-10 : (w : Widths) (e : Env) (n b : ℕ) (ys : List Act) → acts w e (pair n b) ≡ these ys
+      → (Beyond (shown (e .spot .h) +ℤ shown n) → perform e (acts w e (pair n b)) ≡ refused 10) × (perform e (acts w e (pair n b)) ≡ refused 10 → Beyond (shown (e .spot .h) +ℤ shown n))

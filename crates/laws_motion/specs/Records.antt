@@ -1,15 +1,16 @@
 -- Document 01, "What a record holds": the numbers of a record, an entry and the reader's answer, each said by what the environment holds
 -- before the command, as an integer. The statements name what comes out of `act`, `recordOf`, `entryOf` and `readingOf`, and nothing by
 -- which these are put together, so a wrong `glyphOf`, `itemAt`, `lettersOf` or `newPage` does not meet them. Proofs: `proofs/Held.antt`.
-use Prim.Native.Nat.{ℕ, suc}
+use Prim.Native.Nat.{ℕ, suc, _*_, _-_, _/_, _<_, _≤_}
 use Prim.Native.Char.{Char, code}
 use Prim.Native.String.{String}
 use mathlib.Core.Bool.{Bool, true, false}
-use mathlib.Core.List.{List, [], _∷_}
+use mathlib.Core.List.{List, [], _∷_, map}
+use mathlib.Core.Logic.{_⊎_}
 use mathlib.Core.Option.{none, some}
 use mathlib.Core.Path.{_≡_}
 use lib.IntN.{ℤ, pos, negsuc}
-use lib.ListN.{length}
+use lib.ListN.{length, getD}
 use Rattle.rules.specs.declared.Record.{Record}
 use Rattle.rules.specs.declared.Entry.{Entry}
 use Rattle.rules.specs.declared.Colour.{Colour}
@@ -17,7 +18,7 @@ use Rattle.rules.specs.declared.Reading.{Reading}
 use Rattle.rules.specs.declared.ReadAnswer.the-variants as R
 use Rattle.rules.specs.Bytes.{bytes}
 use Rattle.rules.specs.Act.{Scheme, cmy, default, gray, cmyk, rgb, Shape, line, arc, circle, solidCircle, ellipse, solidEllipse, polygon, solidPolygon, spline, thickness, grayFill, colourFill, Plain, pause, trailer, height, slant, underline, Act, glyph, index, to, by, page, font, size, colour, break, space, draw, device, resolution, init, file, mount, plain, raw, stop}
-use Rattle.rules.specs.State.{Paint, Env, start, Glyph, Item, went, act}
+use Rattle.rules.specs.State.{Paint, Env, start, Glyph, Item, mountedAt, went, act}
 use Rattle.rules.specs.Record.{GlyphRow, ItemRow, answer, shown, recordOf, entryOf}
 use Rattle.rules.specs.Answers.{readingOf}
 
@@ -179,7 +180,7 @@ pub record Entered : Type 0 where
   pub one : (e e′ : Env) (gs : List Glyph) (xs : List Item) (a : Act) → isSome (bytes (letters a)) ≡ true → act e a ≡ went e′ gs xs → OneEntry e a xs
   pub no-other : (e e′ : Env) (gs : List Glyph) (xs : List Item) (a : Act) → isSome (bytes (letters a)) ≡ false → act e a ≡ went e′ gs xs → xs ≡ []
 
--- ---- what the environment holds: page, font and size
+-- ---- what the environment holds, the place aside
 
 -- "`p` n: new page numbered n; ..; h, font, size and colours stay (house)"; "The mark is set on the first record of a page"
 pub record NewPage (e e′ : Env) (n : ℕ) : Type 0 where
@@ -191,35 +192,101 @@ pub record NewPage (e e′ : Env) (n : ℕ) : Type 0 where
   pub fill-colour-stays : e′ .fillPaint ≡ e .fillPaint
   pub gap-set : e′ .gap ≡ 1
 
-abbrev pub isPage : Act → Bool
-isPage (glyph n) = false
-isPage (index n) = false
-isPage (to x n) = false
-isPage (by x n) = false
-isPage (page n) = true
-isPage (font n) = false
-isPage (size n) = false
-isPage (colour c ns) = false
-isPage break = false
-isPage space = false
-isPage (draw s ns) = false
-isPage (device n) = false
-isPage (resolution n h v) = false
-isPage init = false
-isPage (file n) = false
-isPage (mount n m) = false
-isPage (plain c ns) = false
-isPage (raw t) = false
-isPage stop = false
+-- "a scheme with four components, unused ones 0"
+pub record PaintIs (c : Scheme) (is : List ℕ) (p : Paint) : Type 0 where
+  pub scheme : p .scheme ≡ c
+  pub components : p .parts ≡ getD is 0 0 ∷ getD is 1 0 ∷ getD is 2 0 ∷ getD is 3 0 ∷ []
+
+-- the numbers ns stand for is, none of them below 0
+abbrev pub StandFor : List ℕ → List ℕ → Type 0
+StandFor ns is = map shown ns ≡ map pos is
+
+-- what commands set
+pub data Setting : Type 0 where
+  thePage theFont theSize theGap theGlyphColour theFillColour theMounts theQuantum : Setting
+
+-- as it was
+abbrev pub Stays : Setting → Env → Env → Type 0
+Stays thePage e e′ = (e′ .ordinal ≡ e .ordinal) × (e′ .number ≡ e .number)
+Stays theFont e e′ = e′ .font ≡ e .font
+Stays theSize e e′ = e′ .size ≡ e .size
+Stays theGap e e′ = e′ .gap ≡ e .gap
+Stays theGlyphColour e e′ = e′ .glyphPaint ≡ e .glyphPaint
+Stays theFillColour e e′ = e′ .fillPaint ≡ e .fillPaint
+Stays theMounts e e′ = e′ .mounts ≡ e .mounts
+Stays theQuantum e e′ = e′ .quantum ≡ e .quantum
+
+-- which of it an act may change
+abbrev pub mayFill : Shape → List Setting
+mayFill line = []
+mayFill arc = []
+mayFill circle = []
+mayFill solidCircle = []
+mayFill ellipse = []
+mayFill solidEllipse = []
+mayFill polygon = []
+mayFill solidPolygon = []
+mayFill spline = []
+mayFill thickness = []
+mayFill grayFill = theFillColour ∷ []
+mayFill (colourFill c) = theFillColour ∷ []
+
+abbrev pub maySet : Act → List Setting
+maySet (glyph n) = theGap ∷ []
+maySet (index n) = theGap ∷ []
+maySet (to x n) = []
+maySet (by x n) = []
+maySet (page n) = thePage ∷ theGap ∷ []
+maySet (font n) = theFont ∷ []
+maySet (size n) = theSize ∷ []
+maySet (colour c ns) = theGlyphColour ∷ []
+maySet break = theGap ∷ []
+maySet space = theGap ∷ []
+maySet (draw s ns) = mayFill s
+maySet (device n) = []
+maySet (resolution n h v) = theQuantum ∷ []
+maySet init = []
+maySet (file n) = []
+maySet (mount n m) = theMounts ∷ []
+maySet (plain c ns) = []
+maySet (raw t) = []
+maySet stop = []
+
+abbrev pub Among : Setting → List Setting → Type 0
+Among k [] = ⊥
+Among k (j ∷ js) = (k ≡ j) ⊎ Among k js
 
 pub record Settings : Type 0 where
-  -- "h and v start at 0"; no page, no font and no size at the start
+  -- "h and v start at 0"; "Both [colours] start as the default scheme."; no page, no font, no size and no mount at the start
   pub starts : (shown (start .spot .h) ≡ pos 0) × (shown (start .spot .v) ≡ pos 0) × (start .ordinal ≡ 0) × (start .font ≡ none) × (start .size ≡ 0)
+  pub starts-glyph-colour : PaintIs default [] (start .glyphPaint)
+  pub starts-fill-colour : PaintIs default [] (start .fillPaint)
+  pub starts-unmounted : (i : ℕ) → mountedAt i (start .mounts) ≡ []
+  -- whatever an act does not set stays
+  pub stays : (e e′ : Env) (gs : List Glyph) (xs : List Item) (a : Act) (k : Setting) → (Among k (maySet a) → ⊥) → act e a ≡ went e′ gs xs → Stays k e e′
   pub turns : (e e′ : Env) (gs : List Glyph) (xs : List Item) (n : ℕ) → act e (page n) ≡ went e′ gs xs → NewPage e e′ n
-  pub page-stays : (e e′ : Env) (gs : List Glyph) (xs : List Item) (a : Act) → isPage a ≡ false → act e a ≡ went e′ gs xs → (e′ .ordinal ≡ e .ordinal) × (e′ .number ≡ e .number)
   -- "`f` n, `s` n: font position 0..255; size 1..99,999,999": the environment holds the number itself
   pub sets-font : (e e′ : Env) (gs : List Glyph) (xs : List Item) (n i : ℕ) → shown n ≡ pos i → act e (font n) ≡ went e′ gs xs → e′ .font ≡ some i
   pub sets-size : (e e′ : Env) (gs : List Glyph) (xs : List Item) (n i : ℕ) → shown n ≡ pos i → act e (size n) ≡ went e′ gs xs → e′ .size ≡ i
+  -- "the .. `x r` second number m" of the advance
+  pub sets-quantum : (e e′ : Env) (gs : List Glyph) (xs : List Item) (n h v i : ℕ) → shown h ≡ pos i → act e (resolution n h v) ≡ went e′ gs xs → e′ .quantum ≡ i
+  -- "`mc` 3, `md` 0, `mg` 1, `mk` 4, `mr` 3: glyph colour, that many components"
+  pub sets-glyph-colour : (e e′ : Env) (gs : List Glyph) (xs : List Item) (c : Scheme) (ns is : List ℕ) → StandFor ns is → act e (colour c ns) ≡ went e′ gs xs → PaintIs c is (e′ .glyphPaint)
+  -- "`DF` sets the fill colour"
+  pub sets-fill-colour : (e e′ : Env) (gs : List Glyph) (xs : List Item) (c : Scheme) (ns is : List ℕ) → StandFor ns is → act e (draw (colourFill c) ns) ≡ went e′ gs xs → PaintIs c is (e′ .fillPaint)
+  -- "`Df` n sets it to gray, the whole part of (1000-n)*65536/1000, for n 0..1000 (house), else to the glyph colour"
+  pub sets-gray : (e e′ : Env) (gs : List Glyph) (xs : List Item) (n i : ℕ) → shown n ≡ pos i → i ≤ 1000 → act e (draw grayFill (n ∷ [])) ≡ went e′ gs xs → PaintIs gray (((1000 - i) * 65536 / 1000) ∷ []) (e′ .fillPaint)
+  pub gray-above : (e e′ : Env) (gs : List Glyph) (xs : List Item) (n i : ℕ) → shown n ≡ pos i → 1000 < i → act e (draw grayFill (n ∷ [])) ≡ went e′ gs xs → e′ .fillPaint ≡ e .glyphPaint
+  pub gray-below : (e e′ : Env) (gs : List Glyph) (xs : List Item) (n i : ℕ) → shown n ≡ negsuc i → act e (draw grayFill (n ∷ [])) ≡ went e′ gs xs → e′ .fillPaint ≡ e .glyphPaint
+  -- "`f` n name (mount at 0..255, again allowed)": the name now mounted there is this one, every other is what it was
+  pub mounts : (e e′ : Env) (gs : List Glyph) (xs : List Item) (n i : ℕ) (m : List ℕ) → shown n ≡ pos i → i < length (e .mounts) → act e (mount n m) ≡ went e′ gs xs → mountedAt i (e′ .mounts) ≡ m
+  pub mounts-no-other : (e e′ : Env) (gs : List Glyph) (xs : List Item) (n i j : ℕ) (m : List ℕ) → shown n ≡ pos i → (j ≡ i → ⊥) → act e (mount n m) ≡ went e′ gs xs → mountedAt j (e′ .mounts) ≡ mountedAt j (e .mounts)
+  -- "on a record with a `w`, `n` or negative `N` since the record before it": these set the mark (`N`: `Recorded.below-0`), a record
+  -- takes it away
+  pub w-marks : (e e′ : Env) (gs : List Glyph) (xs : List Item) → act e space ≡ went e′ gs xs → e′ .gap ≡ 1
+  pub n-marks : (e e′ : Env) (gs : List Glyph) (xs : List Item) → act e break ≡ went e′ gs xs → e′ .gap ≡ 1
+  pub name-unmarks : (e e′ : Env) (gs : List Glyph) (xs : List Item) (n : List ℕ) → act e (glyph n) ≡ went e′ gs xs → e′ .gap ≡ 0
+  pub index-unmarks : (e e′ : Env) (gs : List Glyph) (xs : List Item) (n i : ℕ) → shown n ≡ pos i → act e (index n) ≡ went e′ gs xs → e′ .gap ≡ 0
 
 -- ---- the reader's answer: "the numbers of records, entries and pages, the end h and v, and both colours"
 

@@ -143,14 +143,14 @@ query-refused q at x = go (query q) refl (Q.query-claim q)
 -- ---- streams
 
 -- whitespace and `#` begin no command
-white-bad : (b : ℕ) (r : List ℕ) → isWhite b ≡ true → command b r ≡ bad 3 0
+pub white-bad : (b : ℕ) (r : List ℕ) → isWhite b ≡ true → command b r ≡ bad 3 0
 unfolding letter
 white-bad b r h =
     on (is " " b) (λ e. rw (eqb-true b 32 e))
     (λ e. on (is "\t" b) (λ f. rw (eqb-true b 9 f))
     (λ f. rw (eqb-true b 10 (rw (e, f) at h))))
 
-hash-bad : (b : ℕ) (r : List ℕ) → is "#" b ≡ true → command b r ≡ bad 3 0
+pub hash-bad : (b : ℕ) (r : List ℕ) → is "#" b ≡ true → command b r ≡ bad 3 0
 unfolding letter
 hash-bad b r h = rw (eqb-true b 35 h)
 
@@ -158,17 +158,17 @@ abbrev isGot : Scan → Bool
 isGot (bad n k) = false
 isGot (got c a l) = true
 
-got-no : (p : Bool) (x : Scan) (c : Cmd) (a l : ℕ) → x ≡ got c a l → (p ≡ true → x ≡ bad 3 0) → p ≡ false
+pub got-no : (p : Bool) (x : Scan) (c : Cmd) (a l : ℕ) → x ≡ got c a l → (p ≡ true → x ≡ bad 3 0) → p ≡ false
 got-no p x c a l e f = on p (λ h. no (ap isGot (sym (f h) ∙ e))) (λ h. h)
 
 module _ (w : Widths) (s : List ℕ) where
   -- a byte that passes a test that 0 does not pass is one of the stream's
-  inside-of : (p : ℕ → Bool) (at : ℕ) → p 0 ≡ false → p (byteAt s at) ≡ true → at < length s
+  pub inside-of : (p : ℕ → Bool) (at : ℕ) → p 0 ≡ false → p (byteAt s at) ≡ true → at < length s
   inside-of p at z h =
       on (ltb at (length s)) (λ k. ltb-true at (length s) k)
       (λ k. no (sym z ∙ ap p (sym (List·getD-eq-default s 0 (ltb-false at (length s) k))) ∙ h))
 
-  got-inside : (at : ℕ) (c : Cmd) (a l : ℕ) → commandAt s at ≡ got c a l → at < length s
+  pub got-inside : (at : ℕ) (c : Cmd) (a l : ℕ) → commandAt s at ≡ got c a l → at < length s
   unfolding letter
   got-inside at c a l e =
       on (ltb at (length s)) (λ k. ltb-true at (length s) k)

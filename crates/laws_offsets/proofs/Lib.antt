@@ -6,3 +6,4 @@ pub mod Query
 pub mod Offsets
 pub mod ByNumber
 pub mod Exactly
+pub mod Places

@@ -56,7 +56,7 @@ module _ (w : Widths) (s : List ℕ) where
         after-points (glyphRows (at + a) gs) (itemRows at l xs) (more d) (go d (past-command at e d c a l gs xs h p q))
 
   -- the byte at a place, and what is behind it
-  byte-here : (at b : ℕ) (r : List ℕ) → drop at s ≡ b ∷ r → byteAt s at ≡ b
+  pub byte-here : (at b : ℕ) (r : List ℕ) → drop at s ≡ b ∷ r → byteAt s at ≡ b
   byte-here at b r d = sym (let z : getD (drop at s) 0 0 ≡ getD s (at + 0) 0 = getD-drop at s 0 0 in rw (add-zero, d) at z)
 
   one-points : (at b : ℕ) (r : List ℕ) (e : Env) (x : Scan) → FirstByte s at → ReadTo w s at e → commandAt s at ≡ x → command b r ≡ x

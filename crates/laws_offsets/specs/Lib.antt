@@ -1,3 +1,4 @@
 pub mod Stream
 pub mod Lists
 pub mod Offsets
+pub mod Places

@@ -131,7 +131,7 @@ module _ (w : Widths) where
   unfolding namesOf
   acts-named e (just a) = append-nil (actName a)
   acts-named e (word n bs) = ready-named e (word n bs) (wordIn w e n bs) (e .font) (λ f. word-named n (w .fonts) (mountedAt f (e .mounts)) _ bs)
-  acts-named e (pair n b) = ready-named e (pair n b) (λ f. these (by across n ∷ glyph (b ∷ []) ∷ [])) (e .font) (λ f. refl)
+  acts-named e (pair n b) = ready-named e (pair n b) _ (e .font) (λ f. refl)
 
   pub step-cats : (e : Env) (c : Cmd) → Cats (nameOf c) (perform e (acts w e c))
   step-cats e c = go (acts w e c) (acts-named e c)
@@ -199,7 +199,7 @@ module _ (s : List ℕ) where
   items-in : (xs : List Item) (at l : ℕ) → at + l ≤ length s → AllItems s (itemRows at l xs)
   unfolding itemRows
   items-in [] at l h = tt
-  items-in (x ∷ xs) at l h = (h, items-in xs at l h)
+  items-in (x ∷ xs) at l h = (omega arith, items-in xs at l h)
 
 abbrev pub RowsOf : List ℕ → Answer → Type 0
 RowsOf s (refuse n at) = Unit {0}
