@@ -344,7 +344,7 @@ otherwise-outline cs cs₂ (otherwise ps ps₂ bs ds ds₂ u v h) =
 otherwise-outline cs cs₂ (moved c ds ds₂ m h) = motion-outline c ds m ∙ otherwise-outline ds ds₂ h
 otherwise-outline cs cs₂ (moved₂ c ds ds₂ m h) = otherwise-outline ds ds₂ h ∙ sym (motion-outline c ds₂ m)
 
-outline-keys : (s list : List ℕ) (gs : List Glyph) (a : Accepted s list gs) → map key gs ≡ keysFrom 0 0 (outline (a .allowed .commands))
+pub outline-keys : (s list : List ℕ) (gs : List Glyph) (a : Accepted s list gs) → map key gs ≡ keysFrom 0 0 (outline (a .allowed .commands))
 outline-keys s list gs a =
     let x : ReadsTo s list (a .end) gs (a .items) = accepted-reads s list gs a in
     ap (map key) (sym (x .glyphs-are))

@@ -86,6 +86,7 @@ rewriting-changes-nothing s list o n o′ c o₂ r₂ o₂′ d h = spell-calls.
 pub find-exactly : D.FindExactly
 find-exactly = record {
   answered = λ s list q rs hs r rs′ hs′ gs qs is c a w l p k. find-calls.answers s list q rs hs r rs′ hs′ c gs qs is a w l p k;
+  by-commands = find-calls.outline-keys;
   some = find-calls.some-list;
   one = find-calls.one-list;
   only = λ s list q rs hs n k rs′ hs′ c. find-calls.only-found s list q rs hs n k rs′ hs′ c;

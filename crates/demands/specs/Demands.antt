@@ -28,8 +28,9 @@ use Rattle.rules.specs.Widths.{Widths, sound, widthList}
 use Rattle.rules.specs.State.{Env, Glyph, Item, went, start, steps, stopped}
 use Rattle.rules.specs.Record.{shown, EntryLetters, lettersOf, colourOf}
 use Rattle.rules.specs.House.{spelling, spellAll}
-use Rattle.rules.specs.Find.{Wanted, Key, key}
+use Rattle.rules.specs.Find.{Wanted, Key}
 use Rattle.rules.specs.Calls.{ReadCall, RespellCall, FindCall, JudgeCall}
+use Rattle.laws_read.specs.Outline.{outline, keysFrom}
 use Rattle.laws_find.specs.Occurs.{OccursAt, Elem, Rising}
 use Rattle.laws_find.specs.Written.{written, GoodQuery}
 use Rattle.laws_offsets.specs.Offsets.{ReadOffset, FindOffset, OrRoom, Said}
@@ -218,10 +219,14 @@ pub record WellFormed (q : List ℕ) (qs : List Wanted) : Type 0 where
   pub text : q ≡ written qs
   pub good : GoodQuery qs
 
+-- what "01's rule" looks at in a glyph: "name bytes, gap mark and page ordinal"
+abbrev pub looked : Glyph → Key
+looked g = record { name = g .name; gap = g .gap; ordinal = g .ordinal }
+
 -- "the number of every glyph record of the stream at which the query occurs by 01's rule, each once, earliest first, and no other"
 pub record ListOf (qs : List Wanted) (gs : List Glyph) (is : List ℕ) : Type 0 where
-  pub every : (i : ℕ) → OccursAt qs (map key gs) i → Elem i is
-  pub no-other : (i : ℕ) → Elem i is → OccursAt qs (map key gs) i
+  pub every : (i : ℕ) → OccursAt qs (map looked gs) i → Elem i is
+  pub no-other : (i : ℕ) → Elem i is → OccursAt qs (map looked gs) i
   pub each-once-earliest-first : Rising is
 
 -- "For any stream accepted with its width list, any well-formed query and rows large enough, whatever they held before, the finder's list
@@ -238,6 +243,9 @@ pub record FindExactly : Type 0 where
   pub answered : (s list q : List ℕ) (rs : List Record) (hs : List ℕ) (r : Finding) (rs′ : List Record) (hs′ : List ℕ) (gs : List Glyph) (qs : List Wanted) (is : List ℕ)
       → FindCall s list q rs hs r rs′ hs′ → Accepted s list gs → WellFormed q qs → ListOf qs gs is → length gs ≤ length rs → length is ≤ length hs
       → FoundAll s rs hs gs is r rs′ hs′
+  -- What is looked at goes by the commands alone: names, gap marks and page ordinals are those of the outline (`laws_read`, Outline.antt),
+  -- in which a glyph has its name, `w`, `n` and a negative `N` are gaps, and `p` begins a page.
+  pub by-commands : (s list : List ℕ) (gs : List Glyph) (a : Accepted s list gs) → map looked gs ≡ keysFrom 0 0 (outline (a .allowed .commands))
   -- there is such a list for every query and stream, and one alone
   pub some : (qs : List Wanted) (gs : List Glyph) → GoodQuery qs → (is : List ℕ) × ListOf qs gs is
   pub one : (qs : List Wanted) (gs : List Glyph) (is is₂ : List ℕ) → ListOf qs gs is → ListOf qs gs is₂ → is ≡ is₂
