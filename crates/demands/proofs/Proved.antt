@@ -89,6 +89,7 @@ find-exactly = record {
   by-commands = find-calls.outline-keys;
   some = find-calls.some-list;
   one = find-calls.one-list;
+  as-the-reader = λ s list q rs hs n k rs′ hs′ es r rs₂′ es′ c d h. find-calls.as-the-reader s list q rs hs n k rs′ hs′ c es r rs₂′ es′ d h;
   only = λ s list q rs hs n k rs′ hs′ c. find-calls.only-found s list q rs hs n k rs′ hs′ c;
 }
 

@@ -70,7 +70,7 @@ pub record Accepted (s list : List ℕ) (gs : List Glyph) : Type 0 where
   pub items : List Item
   pub allowed : Allowed s widths end gs items
 
--- what a record says, its name by the bytes that stand in the stream at its place; and what a glyph has of it
+-- what a record says, its name by the bytes that stand in the stream at its place, and their number; and what a glyph has of it
 pub record SeenGlyph : Type 0 where
   pub ordinal : ℕ
   pub page : ℤ
@@ -79,14 +79,20 @@ pub record SeenGlyph : Type 0 where
   pub font : ℕ
   pub size : ℕ
   pub name : List ℕ
+  pub len : ℕ
   pub index : ℕ
   pub gap : ℕ
 
 abbrev pub recorded : List ℕ → Record → SeenGlyph
-recorded s r = record { ordinal = r .ordinal; page = r .page; h = r .h; v = r .v; font = r .font; size = r .size; name = take (r .len) (drop (r .place) s); index = r .index; gap = r .gap }
+recorded s r = record { ordinal = r .ordinal; page = r .page; h = r .h; v = r .v; font = r .font; size = r .size; name = take (r .len) (drop (r .place) s); len = r .len; index = r .index; gap = r .gap }
 
 abbrev pub set : Glyph → SeenGlyph
-set g = record { ordinal = g .ordinal; page = shown (g .number); h = shown (g .spot .h); v = shown (g .spot .v); font = g .font; size = g .size; name = g .name; index = g .index; gap = g .gap }
+set g = record { ordinal = g .ordinal; page = shown (g .number); h = shown (g .spot .h); v = shown (g .spot .v); font = g .font; size = g .size; name = g .name; len = length (g .name); index = g .index; gap = g .gap }
+
+-- "an `N` name has place 0": an empty name has
+abbrev pub UnnamedAt0 : List Record → Type 0
+UnnamedAt0 [] = Unit {0}
+UnnamedAt0 (r ∷ rs) = (r .len ≡ 0 → r .place ≡ 0) × UnnamedAt0 rs
 
 -- what an entry says, its place in the stream aside; and what a drawing or control has of it
 pub record SeenEntry : Type 0 where
@@ -167,6 +173,7 @@ pub record AcceptExactly : Type 0 where
 -- the answer tells how many of each, the pages, the end position and both colours; and what lies behind them is kept.
 pub record RecordedAll (s : List ℕ) (end : Env) (gs : List Glyph) (xs : List Item) (rs : List Record) (es : List Entry) (r : Reading) (rs′ : List Record) (es′ : List Entry) : Type 0 where
   pub glyphs : map (recorded s) (take (length gs) rs′) ≡ map set gs
+  pub unnamed : UnnamedAt0 (take (length gs) rs′)
   pub drawings-and-controls : map entered (take (length xs) es′) ≡ map drawn xs
   pub answer : r .answer ≡ R.Accepted (length gs) (length xs) (end .ordinal) (shown (end .spot .h)) (shown (end .spot .v))
   pub glyph-colour : r .glyph ≡ colourOf (end .glyphPaint)
@@ -236,6 +243,7 @@ pub record FoundAll (s : List ℕ) (rs : List Record) (hs : List ℕ) (gs : List
   pub list : take (length is) hs′ ≡ is
   pub numbers : r ≡ F.Accepted (length gs) (length is)
   pub records : map (recorded s) (take (length gs) rs′) ≡ map set gs
+  pub unnamed : UnnamedAt0 (take (length gs) rs′)
   pub list-behind : drop (length is) hs′ ≡ drop (length is) hs
   pub records-behind : drop (length gs) rs′ ≡ drop (length gs) rs
 
@@ -249,7 +257,10 @@ pub record FindExactly : Type 0 where
   -- there is such a list for every query and stream, and one alone
   pub some : (qs : List Wanted) (gs : List Glyph) → GoodQuery qs → (is : List ℕ) × ListOf qs gs is
   pub one : (qs : List Wanted) (gs : List Glyph) (is is₂ : List ℕ) → ListOf qs gs is → ListOf qs gs is₂ → is ≡ is₂
-  -- and nothing else is ever answered
+  -- "the record row, which it fills as the reader does": the very same row, place by place
+  pub as-the-reader : (s list q : List ℕ) (rs : List Record) (hs : List ℕ) (n k : ℕ) (rs′ : List Record) (hs′ : List ℕ) (es : List Entry) (r : Reading) (rs₂′ : List Record) (es′ : List Entry)
+      → FindCall s list q rs hs (F.Accepted n k) rs′ hs′ → ReadCall s list rs es r rs₂′ es′ → IsAccepted (r .answer) → rs′ ≡ rs₂′
+  -- and nothing else is ever accepted
   pub only : (s list q : List ℕ) (rs : List Record) (hs : List ℕ) (n k : ℕ) (rs′ : List Record) (hs′ : List ℕ) → FindCall s list q rs hs (F.Accepted n k) rs′ hs′
       → (gs : List Glyph) × (qs : List Wanted) × (is : List ℕ) × Accepted s list gs × WellFormed q qs × ListOf qs gs is × FoundAll s rs hs gs is (F.Accepted n k) rs′ hs′
 
