@@ -31,7 +31,7 @@ use Rattle.laws_answers.proofs.Numbers.{numbers}
 use Rattle.laws_offsets.specs.Offsets.{FindOffset, OrRoom, Said}
 use Rattle.laws_offsets.proofs.Offsets.{offsets}
 use Rattle.laws_offsets.proofs.ByNumber.{by-number}
-use Rattle.demands.specs.Demands.{Allowed, Accepted, recorded, set, UnnamedAt0, IsAccepted, WellFormed, ListOf, FoundAll, SetBy, none, c-or-C, t-or-u, two-digits, Motion, to-place, by-way, SetOtherwise, ended, same, otherwise, moved, moved₂, FiveForms, SameList, Alike}
+use Rattle.demands.specs.Demands.{Allowed, Accepted, recorded, set, UnnamedAt0, IsAccepted, WellFormed, ListOf, FoundAll, SetBy, none, c-or-C, t-or-u, two-digits, motion, Motion, to-place, by-way, SetOtherwise, ended, same, otherwise, moved, moved₂, FiveForms, SameList, Alike}
 use Rattle.demands.proofs.Allowed.{ReadsTo, allowed-reads, allowed-accepted, commands-are, Stream, read-allowed}
 use Rattle.demands.proofs.ReadCalls.{take-over, drop-over, length-over, glyphs-seen, unnamed-at-0, rows-stand, Rows, accepted-call}
 
@@ -341,17 +341,18 @@ map-both : (xs ys : List ℕ) → map byteSign xs ++ map byteSign ys ≡ map byt
 map-both [] ys = refl
 map-both (x ∷ xs) ys = ap (λ (l : List Sign). byteSign x ∷ l) (map-both xs ys)
 
+motion-outline : (c : Cmd) (cs : List Cmd) → Motion c → outline (c ∷ cs) ≡ outline cs
+unfolding outline
+motion-outline c cs (to-place x n) = refl
+motion-outline c cs (by-way x n) = refl
+
 set-outline : (cs : List Cmd) (bs : List ℕ) → SetBy cs bs → outline cs ≡ map byteSign bs
 unfolding outline
 set-outline cs bs none = refl
 set-outline cs bs (c-or-C b cs′ bs′ h) = ap (λ (l : List Sign). byteSign b ∷ l) (set-outline cs′ bs′ h)
 set-outline cs bs (t-or-u n ps cs′ bs′ h) = ap (λ (l : List Sign). map byteSign ps ++ l) (set-outline cs′ bs′ h) ∙ map-both ps bs′
 set-outline cs bs (two-digits n b cs′ bs′ h) = ap (λ (l : List Sign). byteSign b ∷ l) (set-outline cs′ bs′ h)
-
-motion-outline : (c : Cmd) (cs : List Cmd) → Motion c → outline (c ∷ cs) ≡ outline cs
-unfolding outline
-motion-outline c cs (to-place x n) = refl
-motion-outline c cs (by-way x n) = refl
+set-outline cs bs (motion c cs′ bs′ m h) = motion-outline c cs′ m ∙ set-outline cs′ bs′ h
 
 otherwise-outline : (cs cs₂ : List Cmd) → SetOtherwise cs cs₂ → outline cs ≡ outline cs₂
 unfolding outline

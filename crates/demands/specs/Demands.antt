@@ -265,16 +265,17 @@ pub record FindExactly : Type 0 where
       → (gs : List Glyph) × (qs : List Wanted) × (is : List ℕ) × Accepted s list gs × WellFormed q qs × ListOf qs gs is × FoundAll s rs hs gs is (F.Accepted n k) rs′ hs′
 
 -- "In accepted streams it makes no difference to list or numbers by which of t, u, c, C or the old two-digit form a one-byte name was set."
--- The bytes bs are set as names of one byte each, in order, by `c` or `C`, `t` or `u` words, or two digits.
+-- The bytes bs are set as names of one byte each, in order, by `c` or `C`, `t` or `u` words, or two digits, with any motions between them.
+pub data Motion : Cmd → Type 0 where
+  to-place : (x : Axis) (n : ℕ) → Motion (just (to x n))
+  by-way : (x : Axis) (n : ℕ) → Motion (just (by x n))
+
 pub data SetBy : List Cmd → List ℕ → Type 0 where
   none : SetBy [] []
   c-or-C : (b : ℕ) (cs : List Cmd) (bs : List ℕ) → SetBy cs bs → SetBy (just (glyph (b ∷ [])) ∷ cs) (b ∷ bs)
   t-or-u : (n : ℕ) (ps : List ℕ) (cs : List Cmd) (bs : List ℕ) → SetBy cs bs → SetBy (word n ps ∷ cs) (ps ++ bs)
   two-digits : (n b : ℕ) (cs : List Cmd) (bs : List ℕ) → SetBy cs bs → SetBy (pair n b ∷ cs) (b ∷ bs)
-
-pub data Motion : Cmd → Type 0 where
-  to-place : (x : Axis) (n : ℕ) → Motion (just (to x n))
-  by-way : (x : Axis) (n : ℕ) → Motion (just (by x n))
+  motion : (c : Cmd) (cs : List Cmd) (bs : List ℕ) → Motion c → SetBy cs bs → SetBy (c ∷ cs) bs
 
 -- two streams' commands are the same, but for that, and for motions
 pub data SetOtherwise : List Cmd → List Cmd → Type 0 where

@@ -177,10 +177,15 @@ AllItems·append : (s : List ℕ) (xs ys : List ItemRow) → AllItems s xs → A
 AllItems·append s [] ys h k = k
 AllItems·append s (x ∷ xs) ys h k = (h .0, AllItems·append s xs ys (h .1) k)
 
+-- "an `N` name has place 0"
+no-name : (a : ℕ) (n : List ℕ) → length n ≡ 0 → namePlace a n ≡ 0
+no-name a [] k = refl
+no-name a (b ∷ n) k = absurd (omega (arith, k))
+
 module _ (s : List ℕ) where
   -- a record of this name, its place as the rules have it
   row-in : (g : Glyph) (a : ℕ) → Stands (g .name) a s → RowIn s (record { glyph = g; place = namePlace a (g .name) })
-  row-in g a h = record { stands = at-name (g .name) h; within = in-name (g .name) h; unnamed = no-name (g .name) }
+  row-in g a h = record { stands = at-name (g .name) h; within = in-name (g .name) h; unnamed = no-name a (g .name) }
     where
       at-name : (n : List ℕ) → Stands n a s → Stands n (namePlace a n) s
       at-name [] k = refl
@@ -189,10 +194,6 @@ module _ (s : List ℕ) where
       in-name : (n : List ℕ) → Stands n a s → namePlace a n + length n ≤ length s
       in-name [] k = omega arith
       in-name (b ∷ n) k = omega (arith, sym (ap length k) ∙ length-take (suc (length n)) (drop a s), length-drop a s)
-
-      no-name : (n : List ℕ) → length n ≡ 0 → namePlace a n ≡ 0
-      no-name [] k = refl
-      no-name (b ∷ n) k = absurd (omega (arith, k))
 
   rows-stand : (gs : List Glyph) (a : ℕ) → Stands (cat gs) a s → AllRows s (glyphRows a gs)
   unfolding glyphRows cat
