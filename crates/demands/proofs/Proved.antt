@@ -71,6 +71,8 @@ pub give-house-spelling : D.GiveHouseSpelling
 give-house-spelling = record {
   where-allowed = λ s list o r o′ w end gs xs c l a p q. spell-calls.gives s list o r o′ c w end gs xs l a p q;
   only-where-allowed = λ s list o n o′ c. spell-calls.only-allowed-spelt s list o n o′ c;
+  keeps = λ s list o n o′ c w end gs xs l a b. spell-calls.keeps s list o n o′ c w end gs xs l a b;
+  places = λ s list o n o′ c w end gs xs l a b. spell-calls.places s list o n o′ c w end gs xs l a b;
   in-house-lines = λ s list o n o′ c. spell-calls.in-house-lines s list o n o′ c;
   no-motion-in-vain = λ s list o n o′ c xs x k ys h. spell-calls.no-motion-in-vain s list o n o′ c xs x k ys h;
 }
