@@ -21,7 +21,7 @@ use Rattle.rules.specs.declared.Finding.{Finding}
 use Rattle.rules.specs.declared.Finding.the-variants as F
 use Rattle.rules.specs.declared.Judging.{Judging}
 use Rattle.rules.specs.declared.Judging.the-variants as J
-use Rattle.rules.specs.Bytes.{is, isWhite, oneLine, origin}
+use Rattle.rules.specs.Bytes.{bytes, is, isWhite, oneLine, origin}
 use Rattle.rules.specs.Act.{Axis, Act, glyph, to, by, raw, draw, Cmd, just, word, pair}
 use Rattle.rules.specs.Scan.{got, command}
 use Rattle.rules.specs.Widths.{Widths, sound, widthList}
@@ -35,6 +35,8 @@ use Rattle.laws_read.specs.Kept.{unmotioned}
 use Rattle.laws_read.specs.Spots.{spotsFrom}
 use Rattle.laws_find.specs.Occurs.{OccursAt, Elem, Rising}
 use Rattle.laws_find.specs.Written.{written, GoodQuery}
+use Rattle.laws_motion.specs.Motions.{NumberTexts, Motions, Refusal10, Advances, Words, InEveryRun}
+use Rattle.laws_motion.specs.Records.{Recorded, Entered, Settings, AnswerHolds}
 use Rattle.laws_offsets.specs.Offsets.{ReadOffset, FindOffset, OrRoom, Said}
 use Rattle.laws_house.specs.Lines.{HouseText}
 use Rattle.laws_needed.specs.Statement.{OnlyWhereItDiffers}
@@ -186,6 +188,32 @@ pub record RecordedAll (s : List ℕ) (end : Env) (gs : List Glyph) (xs : List I
 abbrev pub RecordEach : Type 0
 RecordEach = (s list : List ℕ) (rs : List Record) (es : List Entry) (r : Reading) (rs′ : List Record) (es′ : List Entry) (w : Widths) (end : Env) (gs : List Glyph) (xs : List Item)
     → ReadCall s list rs es r rs′ es′ → SoundList list w → length gs ≤ length rs → length xs ≤ length es → Allowed s w end gs xs → RecordedAll s end gs xs rs es r rs′ es′
+
+-- "the name, page, place, font and size 01 gives it": what `steps` makes of the commands is 01's, act by act, in integers
+-- (`laws_motion`, where Motions.antt and Records.antt have 01's tables once more, apart from the rules)
+pub record As01Gives : Type 0 where
+  -- numbers; motions and where they are refused; the advance; words and two digits; and that all this holds in every run
+  pub numbers : NumberTexts
+  pub motions : Motions
+  pub refusal-10 : Refusal10
+  pub advances : Advances
+  pub words : Words
+  pub in-every-run : InEveryRun
+  -- which commands make a record or an entry, and what these hold; page, font and size; the answer
+  pub records : Recorded
+  pub entries : Entered
+  pub settings : Settings
+  pub answer : AnswerHolds
+
+-- A stream is allowed, so all this is about something: 01's sample, with its list, has three glyphs, and five controls.
+abbrev pub sampleList : List ℕ
+sampleList = bytes "unitwidth=1000\nfont=TR\nbyte=97\nwidth=44\nbyte=98\nwidth=50\n"
+
+abbrev pub sample : List ℕ
+sample = bytes "x T ps\nx res 72000 1 1\nx init\np1\nx font 1 TR\nf1\ns10000\nV12000\nH72000\ntab\nwh2500\nC'e\nx stop\n"
+
+abbrev pub SampleAllowed : Type 0
+SampleAllowed = (w : Widths) × (end : Env) × (gs : List Glyph) × (xs : List Item) × SoundList sampleList w × Allowed sample w end gs xs × (length gs ≡ 3) × (length xs ≡ 5)
 
 -- "The rewriter gives the one house spelling.": of the commands that the stream consists of, so that streams of the same commands have one;
 -- unless it is longer than 16,777,216 bytes, or than the buffer. What lies behind it is kept. It is written in house lines, and has `H` and
