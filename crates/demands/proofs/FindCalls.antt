@@ -226,18 +226,20 @@ source s list q rows is h = go (read s list) refl (exactness s list q rows is h)
         let rows-are : rs ≡ rows = sym (ap rowsIn e) ∙ z .records in
         let y : Stream s list d (glyphsIn rs) (map (λ (x : ItemRow). x .item) xs) = read-allowed s list rs xs d e in
         let keys : map keyOf rows ≡ map key (glyphsIn rs) = keys-rows rows ∙ ap (λ (l : List GlyphRow). map key (glyphsIn l)) (sym rows-are) in
-        let text : (q ≡ written (z .glyphs)) × GoodQuery (z .glyphs) = queryText .only q (z .glyphs) (z .asked) in
-        (record {
-          glyphs = glyphsIn rs;
-          wanted = z .glyphs;
-          accepted = record { widths = y .widths; list-sound = y .list-sound; end = d; items = map (λ (x : ItemRow). x .item) xs; allowed = y .allowed };
-          well-formed = record { text = text .0; good = text .1 };
-          list-of = record {
-            every = λ i o. z .every i (subst (λ (ks : List Key). OccursAt (z .glyphs) ks i) (sym keys) o);
-            no-other = λ i m. subst (λ (ks : List Key). OccursAt (z .glyphs) ks i) keys (z .only i m);
-            each-once-earliest-first = z .rising;
-          };
-        }, ap glyphsIn rows-are)
+        let text : (q ≡ written (z .glyphs)) × GoodQuery (z .glyphs) = queryText .only q (z .glyphs) (z .asked) in (
+          record {
+            glyphs = glyphsIn rs;
+            wanted = z .glyphs;
+            accepted = record { widths = y .widths; list-sound = y .list-sound; end = d; items = map (λ (x : ItemRow). x .item) xs; allowed = y .allowed };
+            well-formed = record { text = text .0; good = text .1 };
+            list-of = record {
+              every = λ i o. z .every i (subst (λ (ks : List Key). OccursAt (z .glyphs) ks i) (sym keys) o);
+              no-other = λ i m. subst (λ (ks : List Key). OccursAt (z .glyphs) ks i) keys (z .only i m);
+              each-once-earliest-first = z .rising;
+            };
+          },
+          ap glyphsIn rows-are,
+        )
 
 module _ (s list q : List ℕ) (rs : List Record) (hs : List ℕ) (n k : ℕ) (rs′ : List Record) (hs′ : List ℕ) (c : FindCall s list q rs hs (F.Accepted n k) rs′ hs′) where
   pub only-found : (gs : List Glyph) × (qs : List Wanted) × (is : List ℕ) × Accepted s list gs × WellFormed q qs × ListOf qs gs is × FoundAll s rs hs gs is (F.Accepted n k) rs′ hs′

@@ -101,9 +101,16 @@ sample-allowed = go (read D.sample D.sampleList) refl sample-read
     go : (x : Answer) → read D.sample D.sampleList ≡ x → counts x ≡ (3, 5) → D.SampleAllowed
     go (refuse n at) e h = absurd (omega (arith, ap (λ (k : ℕ × ℕ). k .0) h))
     go (answer rs xs d) e h =
-        let y : Stream D.sample D.sampleList d (map (λ (r : GlyphRow). r .glyph) rs) (map (λ (x : ItemRow). x .item) xs) = read-allowed D.sample D.sampleList rs xs d e in
-        (y .widths, d, map (λ (r : GlyphRow). r .glyph) rs, map (λ (x : ItemRow). x .item) xs, y .list-sound, y .allowed,
-        length-map rs (λ (r : GlyphRow). r .glyph) ∙ ap (λ (k : ℕ × ℕ). k .0) h, length-map xs (λ (x : ItemRow). x .item) ∙ ap (λ (k : ℕ × ℕ). k .1) h)
+        let y : Stream D.sample D.sampleList d (map (λ (r : GlyphRow). r .glyph) rs) (map (λ (x : ItemRow). x .item) xs) = read-allowed D.sample D.sampleList rs xs d e in (
+          y .widths,
+          d,
+          map (λ (r : GlyphRow). r .glyph) rs,
+          map (λ (x : ItemRow). x .item) xs,
+          y .list-sound,
+          y .allowed,
+          length-map rs (λ (r : GlyphRow). r .glyph) ∙ ap (λ (k : ℕ × ℕ). k .0) h,
+          length-map xs (λ (x : ItemRow). x .item) ∙ ap (λ (k : ℕ × ℕ). k .1) h,
+        )
 
 pub give-house-spelling : D.GiveHouseSpelling
 give-house-spelling = record {
@@ -137,7 +144,7 @@ pub by-any-command : D.ByAnyCommand
 by-any-command = record {
   forms = find-calls.five-forms;
   no-difference = λ s list s₂ list₂ q rs rs₂ hs hs₂ r r₂ rs′ rs₂′ hs′ hs₂′ gs gs₂ qs is a a₂ o c c₂ w l p p₂ k k₂.
-    find-calls.same-by-keys s list s₂ list₂ q rs rs₂ hs hs₂ r r₂ rs′ rs₂′ hs′ hs₂′ gs gs₂ qs is a a₂ (find-calls.otherwise-keys s list s₂ list₂ gs gs₂ a a₂ o) c c₂ w l p p₂ k k₂;
+      find-calls.same-by-keys s list s₂ list₂ q rs rs₂ hs hs₂ r r₂ rs′ rs₂′ hs′ hs₂′ gs gs₂ qs is a a₂ (find-calls.otherwise-keys s list s₂ list₂ gs gs₂ a a₂ o) c c₂ w l p p₂ k k₂;
 }
 
 pub alike-answer-alike : D.AlikeAnswerAlike
@@ -180,9 +187,18 @@ module _ (s list : List ℕ) (n m pages len : ℕ) (c : JudgeCall s list (J.Acce
           let y : Stream s list d (map (λ (r : GlyphRow). r .glyph) rs) (map (λ (x : ItemRow). x .item) xs) = read-allowed s list rs xs d e in
           let z : four (J.Accepted n m pages len) (length rs) (length xs) (d .ordinal) (lengthOf (spellWith s (widthList list))) =
           subst (λ (x : Judging). four x (length rs) (length xs) (d .ordinal) (lengthOf (spellWith s (widthList list)))) (sym h) (refl, refl, refl, refl) in
-          let text : spellWith s (widthList list) ≡ houseSpelling (y .widths) (y .allowed .commands) = rw (y .list-sound .says, y .commands-of) in
-          (y .widths, d, map (λ (r : GlyphRow). r .glyph) rs, map (λ (x : ItemRow). x .item) xs, y .list-sound, y .allowed,
-          z .0 ∙ sym (length-map rs (λ (r : GlyphRow). r .glyph)), z .1 ∙ sym (length-map xs (λ (x : ItemRow). x .item)), z .2, told-length (houseSpelling (y .widths) (y .allowed .commands)) (z .3 ∙ ap lengthOf text))
+          let text : spellWith s (widthList list) ≡ houseSpelling (y .widths) (y .allowed .commands) = rw (y .list-sound .says, y .commands-of) in (
+            y .widths,
+            d,
+            map (λ (r : GlyphRow). r .glyph) rs,
+            map (λ (x : ItemRow). x .item) xs,
+            y .list-sound,
+            y .allowed,
+            z .0 ∙ sym (length-map rs (λ (r : GlyphRow). r .glyph)),
+            z .1 ∙ sym (length-map xs (λ (x : ItemRow). x .item)),
+            z .2,
+            told-length (houseSpelling (y .widths) (y .allowed .commands)) (z .3 ∙ ap lengthOf text),
+          )
 
 judge-refused : (s list : List ℕ) (number at : ℕ) → JudgeCall s list (J.Refused number at)
     → (rs : List Record) (es : List Entry) (r : Reading) (rs′ : List Record) (es′ : List Entry) → ReadCall s list rs es r rs′ es′ → r .answer ≡ R.Refused number at

@@ -235,9 +235,16 @@ module _ (s list : List ℕ) (rs : List Record) (es : List Entry) (r : Reading) 
       → (w : Widths) × (end : Env) × (gs : List Glyph) × (xs : List Item) × SoundList list w × Allowed s w end gs xs × (length gs ≤ length rs) × (length xs ≤ length es)
   only-allowed h =
       let x : Rows = accepted-call h in
-      let y : Stream s list (x .env) (glyphsIn (x .glyphs)) (itemsIn (x .items)) = read-allowed s list (x .glyphs) (x .items) (x .env) (x .read-is) in
-      (y .widths, x .env, glyphsIn (x .glyphs), itemsIn (x .items), y .list-sound, y .allowed,
-      rw (length-map (x .glyphs) (λ (r : GlyphRow). r .glyph)) (x .room), rw (length-map (x .items) (λ (z : ItemRow). z .item)) (x .entries-room))
+      let y : Stream s list (x .env) (glyphsIn (x .glyphs)) (itemsIn (x .items)) = read-allowed s list (x .glyphs) (x .items) (x .env) (x .read-is) in (
+        y .widths,
+        x .env,
+        glyphsIn (x .glyphs),
+        itemsIn (x .items),
+        y .list-sound,
+        y .allowed,
+        rw (length-map (x .glyphs) (λ (r : GlyphRow). r .glyph)) (x .room),
+        rw (length-map (x .items) (λ (z : ItemRow). z .item)) (x .entries-room),
+      )
 
   pub only-no-room : (at : ℕ) → r .answer ≡ R.Refused 13 at
       → (w : Widths) × (end : Env) × (gs : List Glyph) × (xs : List Item) × SoundList list w × Allowed s w end gs xs × ((length rs < length gs) ⊎ (length es < length xs))

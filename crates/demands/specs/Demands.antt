@@ -3,12 +3,12 @@
 --
 -- s is a stream, list a width list, q a query; rs, es and hs are the lent rows of records, entries and record numbers, o is the lent
 -- buffer; r is the answer, and what the rows and the buffer hold afterwards has a prime.
-use Prim.Native.Nat.{ℕ, suc, _+_, _-_, _<_, _≤_}
+use Prim.Native.Nat.{ℕ, _-_, _<_, _≤_}
 use mathlib.Core.Bool.{true, false}
 use mathlib.Core.List.{List, [], _∷_, _++_, map}
 use mathlib.Core.Logic.{_⊎_}
 use mathlib.Core.Path.{_≡_}
-use lib.IntN.{ℤ, pos}
+use lib.IntN.{ℤ}
 use lib.ListN.{length, take, drop}
 use Rattle.rules.specs.declared.Record.{Record}
 use Rattle.rules.specs.declared.Entry.{Entry}
@@ -19,14 +19,13 @@ use Rattle.rules.specs.declared.Respelling.{Respelling}
 use Rattle.rules.specs.declared.Respelling.the-variants as S
 use Rattle.rules.specs.declared.Finding.{Finding}
 use Rattle.rules.specs.declared.Finding.the-variants as F
-use Rattle.rules.specs.declared.Judging.{Judging}
 use Rattle.rules.specs.declared.Judging.the-variants as J
 use Rattle.rules.specs.Bytes.{bytes, is, isWhite, oneLine, origin}
-use Rattle.rules.specs.Act.{Axis, Act, glyph, to, by, raw, draw, Cmd, just, word, pair}
+use Rattle.rules.specs.Act.{Axis, Act, glyph, to, by, Cmd, just, word, pair}
 use Rattle.rules.specs.Scan.{got, command}
 use Rattle.rules.specs.Widths.{Widths, sound, widthList}
 use Rattle.rules.specs.State.{Env, Glyph, Item, went, start, steps, stopped}
-use Rattle.rules.specs.Record.{shown, EntryLetters, lettersOf, colourOf}
+use Rattle.rules.specs.Record.{shown, lettersOf, colourOf}
 use Rattle.rules.specs.House.{played, spelling, spellAll}
 use Rattle.rules.specs.Find.{Wanted, Key}
 use Rattle.rules.specs.Calls.{ReadCall, RespellCall, FindCall, JudgeCall}
@@ -98,7 +97,7 @@ abbrev pub UnnamedAt0 : List Record → Type 0
 UnnamedAt0 [] = Unit {0}
 UnnamedAt0 (r ∷ rs) = (r .len ≡ 0 → r .place ≡ 0) × UnnamedAt0 rs
 
--- what an entry says, its place in the stream aside; and what a drawing or control has of it
+-- what an entry says, its place and length in the stream left out; and what a drawing or control has of it
 pub record SeenEntry : Type 0 where
   pub command : ℕ
   pub letter : ℕ
@@ -173,8 +172,9 @@ pub record AcceptExactly : Type 0 where
       → ReadCall s list rs es r rs′ es′ → IsAccepted (r .answer)
       → (w : Widths) × (end : Env) × (gs : List Glyph) × (xs : List Item) × SoundList list w × Allowed s w end gs xs × (length gs ≤ length rs) × (length xs ≤ length es)
 
--- "Each glyph is then recorded once, in order, with the name, page, place, font and size 01 gives it." Likewise each drawing and control;
--- the answer tells how many of each, the pages, the end position and both colours; and what lies behind them is kept.
+-- "Each glyph is then recorded once, in order, with the name, page, place, font and size 01 gives it." Each drawing and control is entered
+-- once, in order; its place and length in the stream are not said here. The answer tells how many of each, the pages, the end position and
+-- both colours; and what lies behind them is kept.
 pub record RecordedAll (s : List ℕ) (end : Env) (gs : List Glyph) (xs : List Item) (rs : List Record) (es : List Entry) (r : Reading) (rs′ : List Record) (es′ : List Entry) : Type 0 where
   pub glyphs : map (recorded s) (take (length gs) rs′) ≡ map set gs
   pub unnamed : UnnamedAt0 (take (length gs) rs′)
@@ -242,7 +242,8 @@ pub record GiveHouseSpelling : Type 0 where
       → (xs : List Act) (x : Axis) (k : ℕ) (ys : List Act) → ConsistsOf (take n o′) (map just (xs ++ to x k ∷ ys)) → OnlyWhereItDiffers list (take n o′) xs x k ys
 
 -- "Whenever it gives one, reading that spelling yields the same glyphs, drawings, controls, pages and end position": the very same, names
--- and arguments included, ending in the same environment; and so say the rows and the answer, where they are large enough
+-- and arguments included, ending in the same environment; and a reader of the spelling, lent a place for each record and entry, answers
+-- the same, with the same rows, places in the stream left out
 pub record ReadTheSame (s list t : List ℕ) : Type 0 where
   pub allowed : (w : Widths) (end : Env) (gs : List Glyph) (xs : List Item) → SoundList list w → Allowed s w end gs xs → Allowed t w end gs xs
   pub rows : (rs : List Record) (es : List Entry) (r : Reading) (rs′ : List Record) (es′ : List Entry) (n m pages : ℕ) (h v : ℤ)
@@ -360,7 +361,7 @@ AlikeAnswerAlike = (s list s₂ list₂ q : List ℕ) (rs rs₂ : List Record) (
     → length gs ≤ length rs → length gs₂ ≤ length rs₂ → length is ≤ length hs → length is ≤ length hs₂
     → SameList r r₂ hs′ hs₂′ × (r ≡ F.Accepted (length gs) (length is))
 
--- ==== what the demands rest on: room, and judging
+-- ==== beside the demands: too little room, and judging
 
 -- refusal 13: "records, entries, hits or spelling need more room than lent, or the spelling is over 16,777,216 bytes; offset 0". "13 comes
 -- last, when all else passed", and "is given exactly for its reason".
@@ -384,6 +385,6 @@ pub record NoRoom : Type 0 where
 pub record Judge : Type 0 where
   pub accepted : (s list : List ℕ) (n m pages len : ℕ) → JudgeCall s list (J.Accepted n m pages len)
       → (w : Widths) × (end : Env) × (gs : List Glyph) × (xs : List Item) × SoundList list w × (a : Allowed s w end gs xs) × (n ≡ length gs) × (m ≡ length xs) × (pages ≡ end .ordinal)
-        × (((len ≡ length (houseSpelling w (a .commands))) × (len ≤ 16_777_216)) ⊎ ((len ≡ 16_777_217) × (16_777_216 < length (houseSpelling w (a .commands)))))
+      × (((len ≡ length (houseSpelling w (a .commands))) × (len ≤ 16_777_216)) ⊎ ((len ≡ 16_777_217) × (16_777_216 < length (houseSpelling w (a .commands)))))
   pub refused : (s list : List ℕ) (number at : ℕ) → JudgeCall s list (J.Refused number at)
       → (rs : List Record) (es : List Entry) (r : Reading) (rs′ : List Record) (es′ : List Entry) → ReadCall s list rs es r rs′ es′ → r .answer ≡ R.Refused number at
