@@ -29,6 +29,7 @@ use Rattle.demands.specs.Demands as D
 use Rattle.demands.specs.Demands.{SoundList, Allowed, houseSpelling}
 use Rattle.demands.proofs.Allowed.{Stream, read-allowed}
 use Rattle.demands.proofs.ReadCalls as read-calls
+use Rattle.demands.proofs.Places as places
 use Rattle.demands.proofs.SpellCalls as spell-calls
 use Rattle.demands.proofs.FindCalls as find-calls
 
@@ -71,6 +72,9 @@ accept-exactly = record {
 
 pub record-each : D.RecordEach
 record-each s list rs es r rs′ es′ w end gs xs c l p q a = read-calls.records-each s list rs es r rs′ es′ c w end gs xs l a p q
+
+pub names-in-place : D.NamesInPlace
+names-in-place s list rs es r rs′ es′ w end gs xs c l p q a = places.names-in-place s list rs es r rs′ es′ c w end gs xs l a p q
 
 pub as-01-gives : D.As01Gives
 as-01-gives = record {

@@ -204,14 +204,14 @@ module _ (s list : List ℕ) (rs : List Record) (es : List Entry) (r : Reading) 
     abbrev to : ReadsTo s list end gs xs
     to = allowed-reads s list end gs xs w l a
 
-    counts : length (to .rows) ≡ length gs
+    pub counts : length (to .rows) ≡ length gs
     counts = sym (length-map (to .rows) (λ (r : GlyphRow). r .glyph)) ∙ ap length (to .glyphs-are)
 
-    items-count : length (to .items) ≡ length xs
+    pub items-count : length (to .items) ≡ length xs
     items-count = sym (length-map (to .items) (λ (y : ItemRow). y .item)) ∙ ap length (to .items-are)
 
     module _ (p : length gs ≤ length rs) (q : length xs ≤ length es) where
-      abbrev allowed-call : Rows
+      abbrev pub allowed-call : Rows
       allowed-call = roomy-call (to .rows) (to .items) end (to .read-is) (omega (arith, counts, p)) (omega (arith, items-count, q))
 
       pub accepts : IsAccepted (r .answer)

@@ -3,7 +3,7 @@
 --
 -- s is a stream, list a width list, q a query; rs, es and hs are the lent rows of records, entries and record numbers, o is the lent
 -- buffer; r is the answer, and what the rows and the buffer hold afterwards has a prime.
-use Prim.Native.Nat.{ℕ, _-_, _<_, _≤_}
+use Prim.Native.Nat.{ℕ, _+_, _-_, _<_, _≤_}
 use mathlib.Core.Bool.{true, false}
 use mathlib.Core.List.{List, [], _∷_, _++_, map}
 use mathlib.Core.Logic.{_⊎_}
@@ -29,7 +29,7 @@ use Rattle.rules.specs.Record.{shown, lettersOf, colourOf}
 use Rattle.rules.specs.House.{played, spelling, spellAll}
 use Rattle.rules.specs.Find.{Wanted, Key}
 use Rattle.rules.specs.Calls.{ReadCall, RespellCall, FindCall, JudgeCall}
-use Rattle.laws_read.specs.Outline.{outline, keysFrom}
+use Rattle.laws_read.specs.Outline.{signsOf, outline, keysFrom}
 use Rattle.laws_read.specs.Kept.{unmotioned}
 use Rattle.laws_read.specs.Spots.{spotsFrom}
 use Rattle.laws_find.specs.Occurs.{OccursAt, Elem, Rising}
@@ -188,6 +188,29 @@ pub record RecordedAll (s : List ℕ) (end : Env) (gs : List Glyph) (xs : List I
 abbrev pub RecordEach : Type 0
 RecordEach = (s list : List ℕ) (rs : List Record) (es : List Entry) (r : Reading) (rs′ : List Record) (es′ : List Entry) (w : Widths) (end : Env) (gs : List Glyph) (xs : List Item)
     → ReadCall s list rs es r rs′ es′ → SoundList list w → length gs ≤ length rs → length xs ≤ length es → Allowed s w end gs xs → RecordedAll s end gs xs rs es r rs′ es′
+
+-- "name (its place and length in the stream)": the place is in the very command that set the glyph. These names stand one behind the other
+-- from a on; "an `N` name has place 0".
+abbrev pub standFrom : ℕ → List (List ℕ) → List ℕ
+standFrom a [] = []
+standFrom a ([] ∷ ns) = 0 ∷ standFrom a ns
+standFrom a ((b ∷ n) ∷ ns) = a ∷ standFrom (a + length (b ∷ n)) ns
+
+-- the names of the glyphs of a command
+abbrev pub namesOf : Cmd → List (List ℕ)
+namesOf c = map (λ (k : Key). k .name) (keysFrom 0 0 (signsOf c))
+
+-- where the names of a stream stand, its first byte being at a place
+unfoldable pub namePlaces : (s : List ℕ) (cs : List Cmd) → ConsistsOf s cs → ℕ → List ℕ
+namePlaces s cs ended at = []
+namePlaces s cs (white b r cs′ h c) at = namePlaces r cs′ c (at + 1)
+namePlaces s cs (comment b r cs′ h c) at = namePlaces (drop (oneLine r) r) cs′ c (at + 1 + oneLine r)
+namePlaces s cs (one b r d name len cs′ w h e c) at = standFrom (at + name) (namesOf d) ++ namePlaces (drop (len - 1) r) cs′ c (at + len)
+
+abbrev pub NamesInPlace : Type 0
+NamesInPlace = (s list : List ℕ) (rs : List Record) (es : List Entry) (r : Reading) (rs′ : List Record) (es′ : List Entry) (w : Widths) (end : Env) (gs : List Glyph) (xs : List Item)
+    → ReadCall s list rs es r rs′ es′ → SoundList list w → length gs ≤ length rs → length xs ≤ length es → (a : Allowed s w end gs xs)
+    → map (λ (k : Record). k .place) (take (length gs) rs′) ≡ namePlaces s (a .commands) (a .consists) 0
 
 -- "the name, page, place, font and size 01 gives it": what `steps` makes of the commands is 01's, act by act, in integers
 -- (`laws_motion`, where Motions.antt and Records.antt have 01's tables once more, apart from the rules)
