@@ -92,7 +92,7 @@ recorded s r = record { ordinal = r .ordinal; page = r .page; h = r .h; v = r .v
 abbrev pub set : Glyph → SeenGlyph
 set g = record { ordinal = g .ordinal; page = shown (g .number); h = shown (g .spot .h); v = shown (g .spot .v); font = g .font; size = g .size; name = g .name; len = length (g .name); index = g .index; gap = g .gap }
 
--- "an `N` name has place 0": an empty name has
+-- "an `N` name has place 0": a record with an empty name has
 abbrev pub UnnamedAt0 : List Record → Type 0
 UnnamedAt0 [] = Unit {0}
 UnnamedAt0 (r ∷ rs) = (r .len ≡ 0 → r .place ≡ 0) × UnnamedAt0 rs
@@ -212,8 +212,8 @@ NamesInPlace = (s list : List ℕ) (rs : List Record) (es : List Entry) (r : Rea
     → ReadCall s list rs es r rs′ es′ → SoundList list w → length gs ≤ length rs → length xs ≤ length es → (a : Allowed s w end gs xs)
     → map (λ (k : Record). k .place) (take (length gs) rs′) ≡ namePlaces s (a .commands) (a .consists) 0
 
--- "the name, page, place, font and size 01 gives it": what `steps` makes of the commands is 01's, act by act, in integers
--- (`laws_motion`, where Motions.antt and Records.antt have 01's tables once more, apart from the rules)
+-- "the name, page, place, font and size 01 gives it": what each command does is what 01 says, in integers (`laws_motion`: Motions.antt and
+-- Records.antt have 01's tables once more, apart from the rules that `Allowed` goes by)
 pub record As01Gives : Type 0 where
   -- numbers; motions and where they are refused; the advance; words and two digits; and that all this holds in every run
   pub numbers : NumberTexts
@@ -228,7 +228,7 @@ pub record As01Gives : Type 0 where
   pub settings : Settings
   pub answer : AnswerHolds
 
--- A stream is allowed, so all this is about something: 01's sample, with its list, has three glyphs, and five controls.
+-- Something is allowed: 01's sample stream with its list, three glyphs and five controls.
 abbrev pub sampleList : List ℕ
 sampleList = bytes "unitwidth=1000\nfont=TR\nbyte=97\nwidth=44\nbyte=98\nwidth=50\n"
 
@@ -239,8 +239,8 @@ abbrev pub SampleAllowed : Type 0
 SampleAllowed = (w : Widths) × (end : Env) × (gs : List Glyph) × (xs : List Item) × SoundList sampleList w × Allowed sample w end gs xs × (length gs ≡ 3) × (length xs ≡ 5)
 
 -- "The rewriter gives the one house spelling.": of the commands that the stream consists of, so that streams of the same commands have one;
--- unless it is longer than 16,777,216 bytes, or than the buffer. What lies behind it is kept. It is written in house lines, and has `H` and
--- `V` only where the place differs.
+-- unless it is longer than 16,777,216 bytes, or than the buffer. What lies behind it is kept. It keeps every command but motions and
+-- every place, is written in house lines, and has `H` and `V` only where the place differs.
 abbrev pub houseSpelling : Widths → List Cmd → List ℕ
 houseSpelling w cs = spellAll (spelling w cs)
 
@@ -266,7 +266,7 @@ pub record GiveHouseSpelling : Type 0 where
 
 -- "Whenever it gives one, reading that spelling yields the same glyphs, drawings, controls, pages and end position": the very same, names
 -- and arguments included, ending in the same environment; and a reader of the spelling, lent a place for each record and entry, answers
--- the same, with the same rows, places in the stream left out
+-- the same, with the same rows but for places in the stream and the lengths of entries
 pub record ReadTheSame (s list t : List ℕ) : Type 0 where
   pub allowed : (w : Widths) (end : Env) (gs : List Glyph) (xs : List Item) → SoundList list w → Allowed s w end gs xs → Allowed t w end gs xs
   pub rows : (rs : List Record) (es : List Entry) (r : Reading) (rs′ : List Record) (es′ : List Entry) (n m pages : ℕ) (h v : ℤ)
