@@ -26,12 +26,12 @@ use Rattle.rules.specs.Scan.{got, command}
 use Rattle.rules.specs.Widths.{Widths, sound, widthList}
 use Rattle.rules.specs.State.{Env, Glyph, Item, went, start, steps, stopped}
 use Rattle.rules.specs.Record.{shown, lettersOf, colourOf}
-use Rattle.rules.specs.House.{played, spelling, spellAll}
+use Rattle.rules.specs.House.{spelling, spellAll}
 use Rattle.rules.specs.Find.{Wanted, Key}
 use Rattle.rules.specs.Calls.{ReadCall, RespellCall, FindCall, JudgeCall}
 use Rattle.laws_read.specs.Outline.{signsOf, outline, keysFrom}
-use Rattle.laws_read.specs.Kept.{unmotioned}
-use Rattle.laws_read.specs.Spots.{spotsFrom}
+use Rattle.laws_read.specs.Kept.{allKept}
+use Rattle.laws_read.specs.Spots.{spotsOf}
 use Rattle.laws_find.specs.Occurs.{OccursAt, Elem, Rising}
 use Rattle.laws_find.specs.Written.{written, GoodQuery}
 use Rattle.laws_motion.specs.Motions.{NumberTexts, Motions, Refusal10, Advances, Words, InEveryRun}
@@ -251,15 +251,16 @@ pub record GiveHouseSpelling : Type 0 where
       → (r ≡ S.Accepted (length (houseSpelling w (a .commands)))) × (o′ ≡ houseSpelling w (a .commands) ++ drop (length (houseSpelling w (a .commands))) o)
   pub only-where-allowed : (s list o : List ℕ) (n : ℕ) (o′ : List ℕ) → RespellCall s list o (S.Accepted n) o′
       → (w : Widths) × (end : Env) × (gs : List Glyph) × (xs : List Item) × SoundList list w × (a : Allowed s w end gs xs) × (take n o′ ≡ houseSpelling w (a .commands)) × (length (take n o′) ≡ n)
-  -- "Every command but motions is kept in order, repeats too.": the single acts that the commands come to, motions left out, are the same
+  -- "Every command but motions is kept in order, repeats too. `t`, `u` and two-digit commands become single glyphs": `allKept` leaves motions
+  -- out, and has single glyphs for these
   pub keeps : (s list o : List ℕ) (n : ℕ) (o′ : List ℕ) → RespellCall s list o (S.Accepted n) o′
       → (w : Widths) (end : Env) (gs : List Glyph) (xs : List Item) → SoundList list w → (a : Allowed s w end gs xs) (b : Allowed (take n o′) w end gs xs)
-      → unmotioned (played w start (b .commands)) ≡ unmotioned (played w start (a .commands))
+      → allKept (b .commands) ≡ allKept (a .commands)
   -- "Before a glyph, `N`, any `D`, `x X` or `x s`, `H` and then `V` are written": before each of these a reader of the spelling has the
   -- place of a reader of the stream
   pub places : (s list o : List ℕ) (n : ℕ) (o′ : List ℕ) → RespellCall s list o (S.Accepted n) o′
       → (w : Widths) (end : Env) (gs : List Glyph) (xs : List Item) → SoundList list w → (a : Allowed s w end gs xs) (b : Allowed (take n o′) w end gs xs)
-      → spotsFrom start (played w start (b .commands)) ≡ spotsFrom start (played w start (a .commands))
+      → spotsOf w start (b .commands) ≡ spotsOf w start (a .commands)
   pub in-house-lines : (s list o : List ℕ) (n : ℕ) (o′ : List ℕ) → RespellCall s list o (S.Accepted n) o′ → HouseText (take n o′)
   pub no-motion-in-vain : (s list o : List ℕ) (n : ℕ) (o′ : List ℕ) → RespellCall s list o (S.Accepted n) o′
       → (xs : List Act) (x : Axis) (k : ℕ) (ys : List Act) → ConsistsOf (take n o′) (map just (xs ++ to x k ∷ ys)) → OnlyWhereItDiffers list (take n o′) xs x k ys

@@ -1,19 +1,19 @@
 -- The house spelling keeps the place before each glyph, `N`, `D`, `x X` and `x s`.
 use Prim.Native.Nat.{ℕ}
 use mathlib.Core.Bool.{Bool, true, false}
-use mathlib.Core.List.{List, [], _∷_, _++_, map, append-assoc}
+use mathlib.Core.List.{List, [], _∷_, _++_, map, append-assoc, append-nil}
 use mathlib.Core.Path.{_≡_, refl, sym, ap, ap₂, _∙_}
 use lib.Dec.{eqb}
 use Rattle.rules.specs.Bytes.{if_then_else_}
 use Rattle.rules.specs.Act.{across, down, Act, glyph, index, to, by, page, font, size, colour, break, space, draw, device, resolution, init, file, mount, plain, raw, stop, Cmd, just}
 use Rattle.rules.specs.Widths.{Widths}
-use Rattle.rules.specs.State.{Spot, corner, Env, start, setSpot, Glyph, Item, Step, refused, went, andThen, onPage, act, run, steps}
-use Rattle.rules.specs.House.{Manner, anchored, floating, turning, moving, manner, moves, kept, pen, onward, house, played, spelling}
+use Rattle.rules.specs.State.{Spot, corner, Env, start, setSpot, Glyph, Item, Step, refused, went, before, andThen, onPage, act, run, Acts, noActs, these, acts, perform, steps}
+use Rattle.rules.specs.House.{Manner, anchored, floating, turning, moving, manner, moves, kept, pen, onward, house, playOn, played, spelling}
 use Rattle.laws.proofs.Cases.{on, no}
 use Rattle.laws_read.proofs.Runs.{well, well-before}
 use Rattle.laws_read.proofs.Tied.{Tied, Facts, facts, tied, same-h, same-v, no-moves}
-use Rattle.laws_read.proofs.Play.{acts-well, played-justs, spelling-run}
-use Rattle.laws_read.specs.Spots.{spotBefore, spotsOn, spotsFrom}
+use Rattle.laws_read.proofs.Play.{acts-well, played-justs, spelling-run, spelling-read}
+use Rattle.laws_read.specs.Spots.{spotBefore, spotsOn, spotsFrom, spotsIn, spotsOf}
 
 -- no place is told but before an act that motions are written before
 abbrev Untold : Manner → Act → Type 0
@@ -83,7 +83,45 @@ spots-house (a ∷ xs) e p t h = go (act e a) refl (λ d r u w. spots-house xs d
         spots-kept e p t a e′ gs is q (house e′ (pen (manner a) p (e′ .spot)) xs) (manner a) (untold a) f
         ∙ ap (λ (l : List Spot). spotBefore (e .spot) a ++ l) (more e′ (pen (manner a) p (e′ .spot)) (tied e p t a e′ gs is q (manner a) f) (well-before gs is (run e′ xs) w))
 
+-- ---- acts, then commands
+
+spots-append : (xs ys : List Act) (e : Env) → spotsFrom e (xs ++ ys) ≡ spotsFrom e xs ++ spotsOn (λ d. spotsFrom d ys) (run e xs)
+unfolding spotsFrom run
+spots-append [] ys e = refl
+spots-append (a ∷ xs) ys e = go (act e a) (λ d. spots-append xs ys d)
+  where
+    behind : (gs : List Glyph) (is : List Item) (x : Step) → spotsOn (λ d. spotsFrom d ys) (before gs is x) ≡ spotsOn (λ d. spotsFrom d ys) x
+    behind gs is (refused n) = refl
+    behind gs is (went d gs′ is′) = refl
+
+    go : (x : Step) → ((d : Env) → spotsFrom d (xs ++ ys) ≡ spotsFrom d xs ++ spotsOn (λ d. spotsFrom d ys) (run d xs))
+        → spotBefore (e .spot) a ++ spotsOn (λ d. spotsFrom d (xs ++ ys)) x
+        ≡ (spotBefore (e .spot) a ++ spotsOn (λ d. spotsFrom d xs) x) ++ spotsOn (λ d. spotsFrom d ys) (andThen x (λ d. run d xs))
+    go (refused n) more = sym (append-nil (spotBefore (e .spot) a ++ []))
+    go (went d gs is) more =
+        ap (λ (l : List Spot). spotBefore (e .spot) a ++ l) (more d ∙ ap (λ (l : List Spot). spotsFrom d xs ++ l) (sym (behind gs is (run d xs))))
+        ∙ sym (append-assoc (spotBefore (e .spot) a) (spotsFrom d xs) (spotsOn (λ d. spotsFrom d ys) (before gs is (run d xs))))
+
+spots-played : (w : Widths) (cs : List Cmd) (e : Env) → well (steps w e cs) ≡ true → spotsFrom e (played w e cs) ≡ spotsOf w e cs
+unfolding steps played spotsFrom spotsOf
+spots-played w [] e h = refl
+spots-played w (c ∷ cs) e h = all (acts w e c) (λ d k. spots-played w cs d k) h
+  where
+    some-of : (x : Step) → ((d : Env) → well (steps w d cs) ≡ true → spotsFrom d (played w d cs) ≡ spotsOf w d cs)
+        → well (andThen x (λ d. steps w d cs)) ≡ true → spotsOn (λ d. spotsFrom d (onward (λ d. played w d cs) x)) x ≡ spotsOn (λ d. spotsOf w d cs) x
+    some-of (refused n) more h = no h
+    some-of (went d gs is) more h = more d (well-before gs is (steps w d cs) h)
+
+    all : (x : Acts) → ((d : Env) → well (steps w d cs) ≡ true → spotsFrom d (played w d cs) ≡ spotsOf w d cs)
+        → well (andThen (perform e x) (λ d. steps w d cs)) ≡ true
+        → spotsFrom e (playOn e (λ d. played w d cs) x) ≡ spotsIn e x ++ spotsOn (λ d. spotsOf w d cs) (perform e x)
+    all (noActs n) more h = no h
+    all (these xs) more h = spots-append xs (onward (λ d. played w d cs) (run e xs)) e ∙ ap (λ (l : List Spot). spotsFrom e xs ++ l) (some-of (run e xs) more h)
+
 -- the spelling, read as commands, has the stream's places
-pub spelling-spots : (w : Widths) (cs : List Cmd) → well (steps w start cs) ≡ true → spotsFrom start (played w start (map just (spelling w cs))) ≡ spotsFrom start (played w start cs)
+pub spelling-spots : (w : Widths) (cs : List Cmd) → well (steps w start cs) ≡ true → spotsOf w start (map just (spelling w cs)) ≡ spotsOf w start cs
 spelling-spots w cs h =
-    ap (spotsFrom start) (played-justs w (spelling w cs) start (rw (spelling-run w cs h) h)) ∙ spots-house (played w start cs) start corner (λ k. refl) (acts-well w cs h)
+    sym (spots-played w (map just (spelling w cs)) start (rw (spelling-read w cs h) h))
+    ∙ ap (spotsFrom start) (played-justs w (spelling w cs) start (rw (spelling-run w cs h) h))
+    ∙ spots-house (played w start cs) start corner (λ k. refl) (acts-well w cs h)
+    ∙ spots-played w cs start h

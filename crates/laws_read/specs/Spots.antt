@@ -1,7 +1,8 @@
--- Where a reader of acts is before each act that `H` and `V` are written before: what the house spelling keeps of the motions.
+-- Where a reader of commands is before each act that `H` and `V` are written before: what the house spelling keeps of the motions.
 use mathlib.Core.List.{List, [], _∷_, _++_}
-use Rattle.rules.specs.Act.{Act, glyph, index, to, by, page, font, size, colour, break, space, draw, device, resolution, init, file, mount, plain, raw, stop}
-use Rattle.rules.specs.State.{Spot, Env, Step, refused, went, act}
+use Rattle.rules.specs.Act.{Act, glyph, index, to, by, page, font, size, colour, break, space, draw, device, resolution, init, file, mount, plain, raw, stop, Cmd}
+use Rattle.rules.specs.Widths.{Widths}
+use Rattle.rules.specs.State.{Spot, Env, Step, refused, went, act, Acts, noActs, these, acts, perform}
 
 -- "Before a glyph, `N`, any `D`, `x X` or `x s`"
 abbrev pub spotBefore : Spot → Act → List Spot
@@ -32,3 +33,12 @@ spotsOn go (went e gs xs) = go e
 unfoldable pub spotsFrom : Env → List Act → List Spot
 spotsFrom e [] = []
 spotsFrom e (a ∷ xs) = spotBefore (e .spot) a ++ spotsOn (λ e′. spotsFrom e′ xs) (act e a)
+
+-- of the single acts that a command comes to, and of all commands
+abbrev pub spotsIn : Env → Acts → List Spot
+spotsIn e (noActs n) = []
+spotsIn e (these xs) = spotsFrom e xs
+
+unfoldable pub spotsOf : Widths → Env → List Cmd → List Spot
+spotsOf w e [] = []
+spotsOf w e (c ∷ cs) = spotsIn e (acts w e c) ++ spotsOn (λ e′. spotsOf w e′ cs) (perform e (acts w e c))
