@@ -27,7 +27,7 @@ use Rattle.demands.specs.Demands.{SoundList, ConsistsOf, ended, white, c
 
 -- ---- the commands that a stream consists of are those that are read
 
-hash-not-white : (b : ℕ) → is "#" b ≡ true → isWhite b ≡ false
+pub hash-not-white : (b : ℕ) → is "#" b ≡ true → isWhite b ≡ false
 hash-not-white b h = rw (eqb-true b 35 h)
 
 abbrev Reads : List ℕ → List Cmd → ℕ → Type 0
@@ -95,7 +95,7 @@ module _ (s list : List ℕ) (end : Env) (gs : List Glyph) (xs : List Item) wher
   }
 
   module _ (w : Widths) (l : SoundList list w) (a : Allowed s w end gs xs) where
-    abbrev inputs : SoundInputs s list
+    abbrev pub inputs : SoundInputs s list
     inputs = record { widths = w; list-sound = l .says; stream-short = le-ltb streamMost (length s) (a .short); list-short = le-ltb 65_536 (length list) (l .short) }
 
     pub commands-are : cmdsOf s ≡ a .commands

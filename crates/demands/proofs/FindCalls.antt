@@ -9,6 +9,8 @@ use lib.Dec.{ltb}
 use lib.ListN.{length, take, drop, length-map}
 use borrow.Author.Tests.{ltb-true, ltb-false, lt-ltb, le-ltb}
 use Rattle.rules.specs.declared.Record.{Record}
+use Rattle.rules.specs.declared.Entry.{Entry}
+use Rattle.rules.specs.declared.Reading.{Reading}
 use Rattle.rules.specs.declared.Finding.{Finding}
 use Rattle.rules.specs.declared.Finding.the-variants as F
 use Rattle.rules.specs.Act.{Act, glyph, to, by, Cmd, just, word, pair}
@@ -16,7 +18,7 @@ use Rattle.rules.specs.State.{Env, Glyph, Item}
 use Rattle.rules.specs.Record.{GlyphRow, ItemRow, Answer, refuse, answer, recordOf, over}
 use Rattle.rules.specs.Find.{Wanted, Key, key, query, wellFormed, hitsFrom}
 use Rattle.rules.specs.Answers.{isOver, read, isAccepted, Found, notFound, found, keyOf, find, foundIn, findInto, findingOf, recordsFound, hitsOver}
-use Rattle.rules.specs.Calls.{FindCall}
+use Rattle.rules.specs.Calls.{ReadCall, FindCall}
 use Rattle.laws.proofs.Cases.{on, no, or-true}
 use Rattle.laws_read.specs.Outline.{Sign, byteSign, signsOf, outline, keysFrom}
 use Rattle.laws_find.specs.Occurs.{OccursAt, Elem, Above, Rising}
@@ -30,9 +32,9 @@ use Rattle.laws_offsets.specs.Offsets.{FindOffset, OrRoom, Said}
 use Rattle.laws_offsets.proofs.Offsets.{offsets}
 use Rattle.laws_offsets.proofs.ByNumber.{by-number}
 use Rattle.laws_offsets.proofs.Exactly.{exactly}
-use Rattle.demands.specs.Demands.{Allowed, Accepted, recorded, set, WellFormed, ListOf, FoundAll, SetBy, none, c-or-C, t-or-u, two-digits, Motion, to-place, by-way, SetOtherwise, ended, same, otherwise, moved, moved₂, FiveForms, SameList, Alike}
+use Rattle.demands.specs.Demands.{Allowed, Accepted, recorded, set, UnnamedAt0, IsAccepted, WellFormed, ListOf, FoundAll, SetBy, none, c-or-C, t-or-u, two-digits, motion, Motion, to-place, by-way, SetOtherwise, ended, same, otherwise, moved, moved₂, FiveForms, SameList, Alike}
 use Rattle.demands.proofs.Allowed.{ReadsTo, allowed-reads, allowed-accepted, commands-are, Stream, read-allowed}
-use Rattle.demands.proofs.ReadCalls.{take-over, drop-over, length-over, glyphs-seen, rows-stand}
+use Rattle.demands.proofs.ReadCalls.{take-over, drop-over, length-over, glyphs-seen, unnamed-at-0, rows-stand, Rows, accepted-call}
 
 abbrev glyphsIn : List GlyphRow → List Glyph
 glyphsIn rs = map (λ (r : GlyphRow). r .glyph) rs
@@ -136,6 +138,7 @@ pub record Finds (s list q : List ℕ) (gs : List Glyph) (is : List ℕ) : Type 
   pub found-is : find s list q ≡ found rows is
   pub glyphs-are : glyphsIn rows ≡ gs
   pub stand : map (recorded s) (map recordOf rows) ≡ map set gs
+  pub unnamed : UnnamedAt0 (map recordOf rows)
 
 finds : (s list q : List ℕ) (gs : List Glyph) (qs : List Wanted) (is : List ℕ) → Accepted s list gs → WellFormed q qs → ListOf qs gs is → Finds s list q gs is
 finds s list q gs qs is a w l = record {
@@ -143,6 +146,7 @@ finds s list q gs qs is a w l = record {
   found-is = answered .accepted s list q qs accepted asked short ∙ rw (ap rowsIn (to .read-is)) (ap (found (to .rows)) list-is);
   glyphs-are = to .glyphs-are;
   stand = glyphs-seen s (to .rows) (rows-stand s list (to .rows) (to .items) (a .end) (to .read-is)) ∙ ap (map set) (to .glyphs-are);
+  unnamed = unnamed-at-0 s (to .rows) (rows-stand s list (to .rows) (to .items) (a .end) (to .read-is));
 }
   where
     to : ReadsTo s list (a .end) gs (a .items)
@@ -186,6 +190,7 @@ module _ (s list q : List ℕ) (rs : List Record) (hs : List ℕ) (r : Finding) 
         list = take-over (length is) is hs hs′ refl hits;
         numbers = c .answer ∙ ap findingOf e ∙ ap (λ (i : ℕ). F.Accepted i (length is)) (count-rows gs (f .rows) (f .glyphs-are));
         records = ap (map (recorded s)) (take-over (length gs) (map recordOf (f .rows)) rs rs′ n rows) ∙ f .stand;
+        unnamed = subst UnnamedAt0 (sym (take-over (length gs) (map recordOf (f .rows)) rs rs′ n rows)) (f .unnamed);
         list-behind = drop-over (length is) is hs hs′ refl hits;
         records-behind = drop-over (length gs) (map recordOf (f .rows)) rs rs′ n rows;
       }
@@ -252,6 +257,19 @@ module _ (s list q : List ℕ) (rs : List Record) (hs : List ℕ) (n k : ℕ) (r
           let x : Source s list q is = y .0 in
           let m : length (x .glyphs) ≡ length rows = ap length (y .1) ∙ length-map rows (λ (r : GlyphRow). r .glyph) in
           (x .glyphs, x .wanted, is, x .accepted, x .well-formed, x .list-of, answers s list q rs hs (F.Accepted n k) rs′ hs′ c (x .glyphs) (x .wanted) is (x .accepted) (x .well-formed) (x .list-of) (omega (arith, m, f .1)) (f .2))
+
+  -- the row is the reader's
+  pub as-the-reader : (es : List Entry) (r : Reading) (rs₂′ : List Record) (es′ : List Entry) → ReadCall s list rs es r rs₂′ es′ → IsAccepted (r .answer) → rs′ ≡ rs₂′
+  as-the-reader es r rs₂′ es′ d h = go (findInto (length rs) (length hs) s list q) (kept-into (length rs) (length hs) s list q) (c .answer) (c .records)
+    where
+      x : Rows s list rs es r rs₂′ es′ d
+      x = accepted-call s list rs es r rs₂′ es′ d h
+
+      go : (y : Found) → Kept (length rs) (length hs) (find s list q) y → F.Accepted n k ≡ findingOf y → rs′ ≡ recordsFound rs y → rs′ ≡ rs₂′
+      go (notFound m at) f a e = absurd (subst IsFound a tt)
+      go (found rows is) f a e =
+          let same : rows ≡ x .glyphs = sym (exactness s list q rows is (f .0) .records) ∙ ap rowsIn (x .read-is) in
+          e ∙ ap (λ (l : List GlyphRow). over (map recordOf l) rs) same ∙ sym (x .records)
 
 -- ---- a refusal
 
@@ -329,17 +347,18 @@ map-both : (xs ys : List ℕ) → map byteSign xs ++ map byteSign ys ≡ map byt
 map-both [] ys = refl
 map-both (x ∷ xs) ys = ap (λ (l : List Sign). byteSign x ∷ l) (map-both xs ys)
 
+motion-outline : (c : Cmd) (cs : List Cmd) → Motion c → outline (c ∷ cs) ≡ outline cs
+unfolding outline
+motion-outline c cs (to-place x n) = refl
+motion-outline c cs (by-way x n) = refl
+
 set-outline : (cs : List Cmd) (bs : List ℕ) → SetBy cs bs → outline cs ≡ map byteSign bs
 unfolding outline
 set-outline cs bs none = refl
 set-outline cs bs (c-or-C b cs′ bs′ h) = ap (λ (l : List Sign). byteSign b ∷ l) (set-outline cs′ bs′ h)
 set-outline cs bs (t-or-u n ps cs′ bs′ h) = ap (λ (l : List Sign). map byteSign ps ++ l) (set-outline cs′ bs′ h) ∙ map-both ps bs′
 set-outline cs bs (two-digits n b cs′ bs′ h) = ap (λ (l : List Sign). byteSign b ∷ l) (set-outline cs′ bs′ h)
-
-motion-outline : (c : Cmd) (cs : List Cmd) → Motion c → outline (c ∷ cs) ≡ outline cs
-unfolding outline
-motion-outline c cs (to-place x n) = refl
-motion-outline c cs (by-way x n) = refl
+set-outline cs bs (motion c cs′ bs′ m h) = motion-outline c cs′ m ∙ set-outline cs′ bs′ h
 
 otherwise-outline : (cs cs₂ : List Cmd) → SetOtherwise cs cs₂ → outline cs ≡ outline cs₂
 unfolding outline
@@ -350,7 +369,7 @@ otherwise-outline cs cs₂ (otherwise ps ps₂ bs ds ds₂ u v h) =
 otherwise-outline cs cs₂ (moved c ds ds₂ m h) = motion-outline c ds m ∙ otherwise-outline ds ds₂ h
 otherwise-outline cs cs₂ (moved₂ c ds ds₂ m h) = otherwise-outline ds ds₂ h ∙ sym (motion-outline c ds₂ m)
 
-outline-keys : (s list : List ℕ) (gs : List Glyph) (a : Accepted s list gs) → map key gs ≡ keysFrom 0 0 (outline (a .allowed .commands))
+pub outline-keys : (s list : List ℕ) (gs : List Glyph) (a : Accepted s list gs) → map key gs ≡ keysFrom 0 0 (outline (a .allowed .commands))
 outline-keys s list gs a =
     let x : ReadsTo s list (a .end) gs (a .items) = accepted-reads s list gs a in
     ap (map key) (sym (x .glyphs-are))

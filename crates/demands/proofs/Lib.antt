@@ -1,5 +1,6 @@
 pub mod Allowed
 pub mod ReadCalls
+pub mod Places
 pub mod SpellCalls
 pub mod FindCalls
 pub mod Proved

@@ -18,12 +18,18 @@ use Rattle.rules.specs.Widths.{Widths, widthList}
 use Rattle.rules.specs.Record.{GlyphRow, ItemRow, Answer, refuse, answer}
 use Rattle.rules.specs.Answers.{streamMost, isOver, lengthOf, read, roomFor, readInto, readingOf, recordsOver, entriesOver, respellInto, respellingOf, bufferOver, findInto, findingOf, recordsFound, hitsOver, spellWith, judgingOf, judge}
 use Rattle.rules.specs.Calls.{ReadCall, JudgeCall}
+use Rattle.rules.specs.Rules.{rules}
 use Rattle.laws.proofs.Cases.{on}
+use Rattle.laws_motion.proofs.Moved.{numbers-hold, motions-hold, refusal-10}
+use Rattle.laws_motion.proofs.Worded.{advances-hold, words-hold}
+use Rattle.laws_motion.proofs.Runs.{in-every-run, in-every-list}
+use Rattle.laws_motion.proofs.Held.{recorded-holds, entered-holds, settings-hold, ends-hold}
 use Rattle.laws_answers.proofs.Judged.{judged}
 use Rattle.demands.specs.Demands as D
 use Rattle.demands.specs.Demands.{SoundList, Allowed, houseSpelling}
 use Rattle.demands.proofs.Allowed.{Stream, read-allowed}
 use Rattle.demands.proofs.ReadCalls as read-calls
+use Rattle.demands.proofs.Places as places
 use Rattle.demands.proofs.SpellCalls as spell-calls
 use Rattle.demands.proofs.FindCalls as find-calls
 
@@ -74,10 +80,56 @@ accept-exactly = record {
 pub record-each : D.RecordEach
 record-each s list rs es r rs′ es′ w end gs xs c l p q a = read-calls.records-each s list rs es r rs′ es′ c w end gs xs l a p q
 
+pub names-in-place : D.NamesInPlace
+names-in-place s list rs es r rs′ es′ w end gs xs c l p q a = places.names-in-place s list rs es r rs′ es′ c w end gs xs l a p q
+
+pub as-01-gives : D.As01Gives
+as-01-gives = record {
+  numbers = numbers-hold;
+  motions = motions-hold;
+  refusal-10 = refusal-10;
+  advances = advances-hold;
+  words = words-hold;
+  in-every-run = in-every-run;
+  in-every-list = in-every-list;
+  records = recorded-holds;
+  entries = entered-holds;
+  settings = settings-hold;
+  answer = ends-hold;
+}
+
+-- the sample, read by the rules
+abbrev counts : Answer → ℕ × ℕ
+counts (refuse n at) = (0, 0)
+counts (answer rs xs e) = (length rs, length xs)
+
+sample-read : counts (read D.sample D.sampleList) ≡ (3, 5)
+unfolding rules
+sample-read = refl
+
+pub sample-allowed : D.SampleAllowed
+sample-allowed = go (read D.sample D.sampleList) refl sample-read
+  where
+    go : (x : Answer) → read D.sample D.sampleList ≡ x → counts x ≡ (3, 5) → D.SampleAllowed
+    go (refuse n at) e h = absurd (omega (arith, ap (λ (k : ℕ × ℕ). k .0) h))
+    go (answer rs xs d) e h =
+        let y : Stream D.sample D.sampleList d (map (λ (r : GlyphRow). r .glyph) rs) (map (λ (x : ItemRow). x .item) xs) = read-allowed D.sample D.sampleList rs xs d e in (
+          y .widths,
+          d,
+          map (λ (r : GlyphRow). r .glyph) rs,
+          map (λ (x : ItemRow). x .item) xs,
+          y .list-sound,
+          y .allowed,
+          length-map rs (λ (r : GlyphRow). r .glyph) ∙ ap (λ (k : ℕ × ℕ). k .0) h,
+          length-map xs (λ (x : ItemRow). x .item) ∙ ap (λ (k : ℕ × ℕ). k .1) h,
+        )
+
 pub give-house-spelling : D.GiveHouseSpelling
 give-house-spelling = record {
   where-allowed = λ s list o r o′ w end gs xs c l a p q. spell-calls.gives s list o r o′ c w end gs xs l a p q;
   only-where-allowed = λ s list o n o′ c. spell-calls.only-allowed-spelt s list o n o′ c;
+  keeps = λ s list o n o′ c w end gs xs l a b. spell-calls.keeps s list o n o′ c w end gs xs l a b;
+  places = λ s list o n o′ c w end gs xs l a b. spell-calls.places s list o n o′ c w end gs xs l a b;
   in-house-lines = λ s list o n o′ c. spell-calls.in-house-lines s list o n o′ c;
   no-motion-in-vain = λ s list o n o′ c xs x k ys h. spell-calls.no-motion-in-vain s list o n o′ c xs x k ys h;
 }
@@ -93,8 +145,10 @@ rewriting-changes-nothing s list o n o′ c o₂ r₂ o₂′ d h = spell-calls.
 pub find-exactly : D.FindExactly
 find-exactly = record {
   answered = λ s list q rs hs r rs′ hs′ gs qs is c a w l p k. find-calls.answers s list q rs hs r rs′ hs′ c gs qs is a w l p k;
+  by-commands = find-calls.outline-keys;
   some = find-calls.some-list;
   one = find-calls.one-list;
+  as-the-reader = λ s list q rs hs n k rs′ hs′ es r rs₂′ es′ c d h. find-calls.as-the-reader s list q rs hs n k rs′ hs′ c es r rs₂′ es′ d h;
   only = λ s list q rs hs n k rs′ hs′ c. find-calls.only-found s list q rs hs n k rs′ hs′ c;
 }
 

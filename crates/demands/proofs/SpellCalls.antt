@@ -17,12 +17,14 @@ use Rattle.rules.specs.declared.Reading.{Reading}
 use Rattle.rules.specs.declared.Respelling.{Respelling}
 use Rattle.rules.specs.declared.Respelling.the-variants as S
 use Rattle.rules.specs.Act.{Axis, Act, to, Cmd, just}
-use Rattle.rules.specs.State.{Env, Glyph, Item, went}
+use Rattle.rules.specs.State.{Env, Glyph, Item, went, start}
 use Rattle.rules.specs.Widths.{Widths, WidthList, unsound, sound, widthList}
 use Rattle.rules.specs.Record.{GlyphRow, ItemRow, Answer, refuse, answer, seen}
 use Rattle.rules.specs.Answers.{streamMost, isOver, read, readingOf, Spelling, notSpelled, spelled, respell, spellingIn, respellInto, respellingOf, bufferOver}
 use Rattle.rules.specs.Calls.{ReadCall, RespellCall}
 use Rattle.laws.proofs.Cases.{on}
+use Rattle.laws_read.specs.Kept.{allKept}
+use Rattle.laws_read.specs.Spots.{spotsOf}
 use Rattle.laws_answers.specs.Statements.{cmdsOf, houseText}
 use Rattle.laws_answers.specs.Statements as T
 use Rattle.laws_answers.proofs.Theorems.{again, fixedPoint, roomy, oneSpelling, limits-hold}
@@ -192,6 +194,14 @@ module _ (s list o : List ℕ) (n : ℕ) (o′ : List ℕ) (c : RespellCall s li
   pub no-motion-in-vain : (xs : List Act) (x : Axis) (k : ℕ) (ys : List Act) → ConsistsOf t (map just (xs ++ to x k ∷ ys)) → OnlyWhereItDiffers list t xs x k ys
   no-motion-in-vain xs x k ys h =
       motionsNeeded .each s list t (text-in s list o n o′ c .spelling) xs x k ys (consists-read t (map just (xs ++ to x k ∷ ys)) h 0 .1)
+
+  -- what holds of the commands of spelling and stream
+  module _ (w : Widths) (end : Env) (gs : List Glyph) (xs : List Item) (l : SoundList list w) (a : Allowed s w end gs xs) (b : Allowed t w end gs xs) where
+    pub keeps : allKept (b .commands) ≡ allKept (a .commands)
+    keeps = rw (← commands-are t list end gs xs w l b, ← commands-are s list end gs xs w l a) (again s list t (text-in s list o n o′ c .spelling) .kept-commands)
+
+    pub places : spotsOf w start (b .commands) ≡ spotsOf w start (a .commands)
+    places = rw (← commands-are t list end gs xs w l b, ← commands-are s list end gs xs w l a) (again s list t (text-in s list o n o′ c .spelling) .places w (l .says))
 
   -- the spelling is allowed, and says the same
   same-allowed : (w : Widths) (end : Env) (gs : List Glyph) (xs : List Item) → SoundList list w → Allowed s w end gs xs → Allowed t w end gs xs

@@ -3,12 +3,12 @@
 --
 -- s is a stream, list a width list, q a query; rs, es and hs are the lent rows of records, entries and record numbers, o is the lent
 -- buffer; r is the answer, and what the rows and the buffer hold afterwards has a prime.
-use Prim.Native.Nat.{ℕ, suc, _+_, _-_, _<_, _≤_}
+use Prim.Native.Nat.{ℕ, _+_, _-_, _<_, _≤_}
 use mathlib.Core.Bool.{true, false}
 use mathlib.Core.List.{List, [], _∷_, _++_, map}
 use mathlib.Core.Logic.{_⊎_}
 use mathlib.Core.Path.{_≡_}
-use lib.IntN.{ℤ, pos}
+use lib.IntN.{ℤ}
 use lib.ListN.{length, take, drop}
 use Rattle.rules.specs.declared.Record.{Record}
 use Rattle.rules.specs.declared.Entry.{Entry}
@@ -19,19 +19,24 @@ use Rattle.rules.specs.declared.Respelling.{Respelling}
 use Rattle.rules.specs.declared.Respelling.the-variants as S
 use Rattle.rules.specs.declared.Finding.{Finding}
 use Rattle.rules.specs.declared.Finding.the-variants as F
-use Rattle.rules.specs.declared.Judging.{Judging}
 use Rattle.rules.specs.declared.Judging.the-variants as J
-use Rattle.rules.specs.Bytes.{is, isWhite, oneLine, origin}
-use Rattle.rules.specs.Act.{Axis, Act, glyph, to, by, raw, draw, Cmd, just, word, pair}
+use Rattle.rules.specs.Bytes.{bytes, is, isWhite, oneLine, origin}
+use Rattle.rules.specs.Act.{Axis, Act, glyph, to, by, Cmd, just, word, pair}
 use Rattle.rules.specs.Scan.{got, command}
 use Rattle.rules.specs.Widths.{Widths, sound, widthList}
 use Rattle.rules.specs.State.{Env, Glyph, Item, went, start, steps, stopped}
-use Rattle.rules.specs.Record.{shown, EntryLetters, lettersOf, colourOf}
+use Rattle.rules.specs.Record.{shown, lettersOf, colourOf}
 use Rattle.rules.specs.House.{spelling, spellAll}
-use Rattle.rules.specs.Find.{Wanted, Key, key}
+use Rattle.rules.specs.Find.{Wanted, Key}
 use Rattle.rules.specs.Calls.{ReadCall, RespellCall, FindCall, JudgeCall}
+use Rattle.laws_read.specs.Outline.{signsOf, outline, keysFrom}
+use Rattle.laws_read.specs.Kept.{allKept}
+use Rattle.laws_read.specs.Spots.{spotsOf}
 use Rattle.laws_find.specs.Occurs.{OccursAt, Elem, Rising}
 use Rattle.laws_find.specs.Written.{written, GoodQuery}
+use Rattle.laws_motion.specs.Motions.{NumberTexts, Motions, Refusal10, Advances, Words}
+use Rattle.laws_motion.specs.Records.{Recorded, Entered, Settings, AnswerHolds}
+use Rattle.laws_motion.specs.Runs.{InEveryRun, InEveryList}
 use Rattle.laws_offsets.specs.Offsets.{ReadOffset, FindOffset, OrRoom, Said}
 use Rattle.laws_house.specs.Lines.{HouseText}
 use Rattle.laws_needed.specs.Statement.{OnlyWhereItDiffers}
@@ -69,7 +74,7 @@ pub record Accepted (s list : List ℕ) (gs : List Glyph) : Type 0 where
   pub items : List Item
   pub allowed : Allowed s widths end gs items
 
--- what a record says, its name by the bytes that stand in the stream at its place; and what a glyph has of it
+-- what a record says, its name by the bytes that stand in the stream at its place, and their number; and what a glyph has of it
 pub record SeenGlyph : Type 0 where
   pub ordinal : ℕ
   pub page : ℤ
@@ -78,16 +83,22 @@ pub record SeenGlyph : Type 0 where
   pub font : ℕ
   pub size : ℕ
   pub name : List ℕ
+  pub len : ℕ
   pub index : ℕ
   pub gap : ℕ
 
 abbrev pub recorded : List ℕ → Record → SeenGlyph
-recorded s r = record { ordinal = r .ordinal; page = r .page; h = r .h; v = r .v; font = r .font; size = r .size; name = take (r .len) (drop (r .place) s); index = r .index; gap = r .gap }
+recorded s r = record { ordinal = r .ordinal; page = r .page; h = r .h; v = r .v; font = r .font; size = r .size; name = take (r .len) (drop (r .place) s); len = r .len; index = r .index; gap = r .gap }
 
 abbrev pub set : Glyph → SeenGlyph
-set g = record { ordinal = g .ordinal; page = shown (g .number); h = shown (g .spot .h); v = shown (g .spot .v); font = g .font; size = g .size; name = g .name; index = g .index; gap = g .gap }
+set g = record { ordinal = g .ordinal; page = shown (g .number); h = shown (g .spot .h); v = shown (g .spot .v); font = g .font; size = g .size; name = g .name; len = length (g .name); index = g .index; gap = g .gap }
 
--- what an entry says, its place in the stream aside; and what a drawing or control has of it
+-- "an `N` name has place 0": a record with an empty name has
+abbrev pub UnnamedAt0 : List Record → Type 0
+UnnamedAt0 [] = Unit {0}
+UnnamedAt0 (r ∷ rs) = (r .len ≡ 0 → r .place ≡ 0) × UnnamedAt0 rs
+
+-- what an entry says, its place and length in the stream left out; and what a drawing or control has of it
 pub record SeenEntry : Type 0 where
   pub command : ℕ
   pub letter : ℕ
@@ -174,10 +185,12 @@ pub record AcceptExactly : Type 0 where
       → ReadCall s list rs es r rs′ es′ → IsAccepted (r .answer)
       → (w : Widths) × (end : Env) × (gs : List Glyph) × (xs : List Item) × SoundList list w × Allowed s w end gs xs × (length gs ≤ length rs) × (length xs ≤ length es)
 
--- "Each glyph is then recorded once, in order, with the name, page, place, font and size 01 gives it." Likewise each drawing and control;
--- the answer tells how many of each, the pages, the end position and both colours; and what lies behind them is kept.
+-- "Each glyph is then recorded once, in order, with the name, page, place, font and size 01 gives it." Each drawing and control is entered
+-- once, in order; its place and length in the stream are not said here. The answer tells how many of each, the pages, the end position and
+-- both colours; and what lies behind them is kept.
 pub record RecordedAll (s : List ℕ) (end : Env) (gs : List Glyph) (xs : List Item) (rs : List Record) (es : List Entry) (r : Reading) (rs′ : List Record) (es′ : List Entry) : Type 0 where
   pub glyphs : map (recorded s) (take (length gs) rs′) ≡ map set gs
+  pub unnamed : UnnamedAt0 (take (length gs) rs′)
   pub drawings-and-controls : map entered (take (length xs) es′) ≡ map drawn xs
   pub answer : r .answer ≡ R.Accepted (length gs) (length xs) (end .ordinal) (shown (end .spot .h)) (shown (end .spot .v))
   pub glyph-colour : r .glyph ≡ colourOf (end .glyphPaint)
@@ -189,9 +202,59 @@ abbrev pub RecordEach : Type 0
 RecordEach = (s list : List ℕ) (rs : List Record) (es : List Entry) (r : Reading) (rs′ : List Record) (es′ : List Entry) (w : Widths) (end : Env) (gs : List Glyph) (xs : List Item)
     → ReadCall s list rs es r rs′ es′ → SoundList list w → length gs ≤ length rs → length xs ≤ length es → Allowed s w end gs xs → RecordedAll s end gs xs rs es r rs′ es′
 
+-- "name (its place and length in the stream)": the place is in the very command that set the glyph. These names stand one behind the other
+-- from a on; "an `N` name has place 0".
+abbrev pub standFrom : ℕ → List (List ℕ) → List ℕ
+standFrom a [] = []
+standFrom a ([] ∷ ns) = 0 ∷ standFrom a ns
+standFrom a ((b ∷ n) ∷ ns) = a ∷ standFrom (a + length (b ∷ n)) ns
+
+-- the names of the glyphs of a command
+abbrev pub namesOf : Cmd → List (List ℕ)
+namesOf c = map (λ (k : Key). k .name) (keysFrom 0 0 (signsOf c))
+
+-- where the names of a stream stand, its first byte being at a place
+unfoldable pub namePlaces : (s : List ℕ) (cs : List Cmd) → ConsistsOf s cs → ℕ → List ℕ
+namePlaces s cs ended at = []
+namePlaces s cs (white b r cs′ h c) at = namePlaces r cs′ c (at + 1)
+namePlaces s cs (comment b r cs′ h c) at = namePlaces (drop (oneLine r) r) cs′ c (at + 1 + oneLine r)
+namePlaces s cs (one b r d name len cs′ w h e c) at = standFrom (at + name) (namesOf d) ++ namePlaces (drop (len - 1) r) cs′ c (at + len)
+
+abbrev pub NamesInPlace : Type 0
+NamesInPlace = (s list : List ℕ) (rs : List Record) (es : List Entry) (r : Reading) (rs′ : List Record) (es′ : List Entry) (w : Widths) (end : Env) (gs : List Glyph) (xs : List Item)
+    → ReadCall s list rs es r rs′ es′ → SoundList list w → length gs ≤ length rs → length xs ≤ length es → (a : Allowed s w end gs xs)
+    → map (λ (k : Record). k .place) (take (length gs) rs′) ≡ namePlaces s (a .commands) (a .consists) 0
+
+-- "the name, page, place, font and size 01 gives it": what each command does is what 01 says, in integers (`laws_motion`: Motions.antt and
+-- Records.antt have 01's tables once more, apart from the rules that `Allowed` goes by)
+pub record As01Gives : Type 0 where
+  -- numbers; motions and where they are refused; the advance; words and two digits; and that all this holds in every run
+  pub numbers : NumberTexts
+  pub motions : Motions
+  pub refusal-10 : Refusal10
+  pub advances : Advances
+  pub words : Words
+  pub in-every-run : InEveryRun
+  pub in-every-list : InEveryList
+  -- which commands make a record or an entry, and what these hold; page, font and size; the answer
+  pub records : Recorded
+  pub entries : Entered
+  pub settings : Settings
+  pub answer : AnswerHolds
+
+-- Something is allowed: 01's sample stream with its list, three glyphs and five controls.
+abbrev pub sampleList : List ℕ
+sampleList = bytes "unitwidth=1000\nfont=TR\nbyte=97\nwidth=44\nbyte=98\nwidth=50\n"
+
+abbrev pub sample : List ℕ
+sample = bytes "x T ps\nx res 72000 1 1\nx init\np1\nx font 1 TR\nf1\ns10000\nV12000\nH72000\ntab\nwh2500\nC'e\nx stop\n"
+
+abbrev pub SampleAllowed : Type 0
+SampleAllowed = (w : Widths) × (end : Env) × (gs : List Glyph) × (xs : List Item) × SoundList sampleList w × Allowed sample w end gs xs × (length gs ≡ 3) × (length xs ≡ 5)
+
 -- "The rewriter gives the one house spelling.": of the commands that the stream consists of, so that streams of the same commands have one;
--- unless it is longer than 16,777,216 bytes, or than the buffer. What lies behind it is kept. It is written in house lines, and has `H` and
--- `V` only where the place differs.
+-- unless it is longer than 16,777,216 bytes, or than the buffer. What lies behind it is kept. It keeps every command but motions and
+-- every place, is written in house lines, and has `H` and `V` only where the place differs.
 abbrev pub houseSpelling : Widths → List Cmd → List ℕ
 houseSpelling w cs = spellAll (spelling w cs)
 
@@ -202,12 +265,23 @@ pub record GiveHouseSpelling : Type 0 where
       → (r ≡ S.Accepted (length (houseSpelling w (a .commands)))) × (o′ ≡ houseSpelling w (a .commands) ++ drop (length (houseSpelling w (a .commands))) o)
   pub only-where-allowed : (s list o : List ℕ) (n : ℕ) (o′ : List ℕ) → RespellCall s list o (S.Accepted n) o′
       → (w : Widths) × (end : Env) × (gs : List Glyph) × (xs : List Item) × SoundList list w × (a : Allowed s w end gs xs) × (take n o′ ≡ houseSpelling w (a .commands)) × (length (take n o′) ≡ n)
+  -- "Every command but motions is kept in order, repeats too. `t`, `u` and two-digit commands become single glyphs": `allKept` leaves motions
+  -- out, and has single glyphs for these
+  pub keeps : (s list o : List ℕ) (n : ℕ) (o′ : List ℕ) → RespellCall s list o (S.Accepted n) o′
+      → (w : Widths) (end : Env) (gs : List Glyph) (xs : List Item) → SoundList list w → (a : Allowed s w end gs xs) (b : Allowed (take n o′) w end gs xs)
+      → allKept (b .commands) ≡ allKept (a .commands)
+  -- "Before a glyph, `N`, any `D`, `x X` or `x s`, `H` and then `V` are written": before each of these a reader of the spelling has the
+  -- place of a reader of the stream
+  pub places : (s list o : List ℕ) (n : ℕ) (o′ : List ℕ) → RespellCall s list o (S.Accepted n) o′
+      → (w : Widths) (end : Env) (gs : List Glyph) (xs : List Item) → SoundList list w → (a : Allowed s w end gs xs) (b : Allowed (take n o′) w end gs xs)
+      → spotsOf w start (b .commands) ≡ spotsOf w start (a .commands)
   pub in-house-lines : (s list o : List ℕ) (n : ℕ) (o′ : List ℕ) → RespellCall s list o (S.Accepted n) o′ → HouseText (take n o′)
   pub no-motion-in-vain : (s list o : List ℕ) (n : ℕ) (o′ : List ℕ) → RespellCall s list o (S.Accepted n) o′
       → (xs : List Act) (x : Axis) (k : ℕ) (ys : List Act) → ConsistsOf (take n o′) (map just (xs ++ to x k ∷ ys)) → OnlyWhereItDiffers list (take n o′) xs x k ys
 
 -- "Whenever it gives one, reading that spelling yields the same glyphs, drawings, controls, pages and end position": the very same, names
--- and arguments included, ending in the same environment; and so say the rows and the answer, where they are large enough
+-- and arguments included, ending in the same environment; and a reader of the spelling, lent a place for each record and entry, answers
+-- the same, with the same rows but for places in the stream and the lengths of entries
 pub record ReadTheSame (s list t : List ℕ) : Type 0 where
   pub allowed : (w : Widths) (end : Env) (gs : List Glyph) (xs : List Item) → SoundList list w → Allowed s w end gs xs → Allowed t w end gs xs
   pub rows : (rs : List Record) (es : List Entry) (r : Reading) (rs′ : List Record) (es′ : List Entry) (n m pages : ℕ) (h v : ℤ)
@@ -230,10 +304,14 @@ pub record WellFormed (q : List ℕ) (qs : List Wanted) : Type 0 where
   pub text : q ≡ written qs
   pub good : GoodQuery qs
 
+-- what "01's rule" looks at in a glyph: "name bytes, gap mark and page ordinal"
+abbrev pub looked : Glyph → Key
+looked g = record { name = g .name; gap = g .gap; ordinal = g .ordinal }
+
 -- "the number of every glyph record of the stream at which the query occurs by 01's rule, each once, earliest first, and no other"
 pub record ListOf (qs : List Wanted) (gs : List Glyph) (is : List ℕ) : Type 0 where
-  pub every : (i : ℕ) → OccursAt qs (map key gs) i → Elem i is
-  pub no-other : (i : ℕ) → Elem i is → OccursAt qs (map key gs) i
+  pub every : (i : ℕ) → OccursAt qs (map looked gs) i → Elem i is
+  pub no-other : (i : ℕ) → Elem i is → OccursAt qs (map looked gs) i
   pub each-once-earliest-first : Rising is
 
 -- "For any stream accepted with its width list, any well-formed query and rows large enough, whatever they held before, the finder's list
@@ -243,6 +321,7 @@ pub record FoundAll (s : List ℕ) (rs : List Record) (hs : List ℕ) (gs : List
   pub list : take (length is) hs′ ≡ is
   pub numbers : r ≡ F.Accepted (length gs) (length is)
   pub records : map (recorded s) (take (length gs) rs′) ≡ map set gs
+  pub unnamed : UnnamedAt0 (take (length gs) rs′)
   pub list-behind : drop (length is) hs′ ≡ drop (length is) hs
   pub records-behind : drop (length gs) rs′ ≡ drop (length gs) rs
 
@@ -250,24 +329,31 @@ pub record FindExactly : Type 0 where
   pub answered : (s list q : List ℕ) (rs : List Record) (hs : List ℕ) (r : Finding) (rs′ : List Record) (hs′ : List ℕ) (gs : List Glyph) (qs : List Wanted) (is : List ℕ)
       → FindCall s list q rs hs r rs′ hs′ → Accepted s list gs → WellFormed q qs → ListOf qs gs is → length gs ≤ length rs → length is ≤ length hs
       → FoundAll s rs hs gs is r rs′ hs′
+  -- What is looked at goes by the commands alone: names, gap marks and page ordinals are those of the outline (`laws_read`, Outline.antt),
+  -- in which a glyph has its name, `w`, `n` and a negative `N` are gaps, and `p` begins a page.
+  pub by-commands : (s list : List ℕ) (gs : List Glyph) (a : Accepted s list gs) → map looked gs ≡ keysFrom 0 0 (outline (a .allowed .commands))
   -- there is such a list for every query and stream, and one alone
   pub some : (qs : List Wanted) (gs : List Glyph) → GoodQuery qs → (is : List ℕ) × ListOf qs gs is
   pub one : (qs : List Wanted) (gs : List Glyph) (is is₂ : List ℕ) → ListOf qs gs is → ListOf qs gs is₂ → is ≡ is₂
-  -- and nothing else is ever answered
+  -- "the record row, which it fills as the reader does": the very same row, place by place
+  pub as-the-reader : (s list q : List ℕ) (rs : List Record) (hs : List ℕ) (n k : ℕ) (rs′ : List Record) (hs′ : List ℕ) (es : List Entry) (r : Reading) (rs₂′ : List Record) (es′ : List Entry)
+      → FindCall s list q rs hs (F.Accepted n k) rs′ hs′ → ReadCall s list rs es r rs₂′ es′ → IsAccepted (r .answer) → rs′ ≡ rs₂′
+  -- and nothing else is ever accepted
   pub only : (s list q : List ℕ) (rs : List Record) (hs : List ℕ) (n k : ℕ) (rs′ : List Record) (hs′ : List ℕ) → FindCall s list q rs hs (F.Accepted n k) rs′ hs′
       → (gs : List Glyph) × (qs : List Wanted) × (is : List ℕ) × Accepted s list gs × WellFormed q qs × ListOf qs gs is × FoundAll s rs hs gs is (F.Accepted n k) rs′ hs′
 
 -- "In accepted streams it makes no difference to list or numbers by which of t, u, c, C or the old two-digit form a one-byte name was set."
--- The bytes bs are set as names of one byte each, in order, by `c` or `C`, `t` or `u` words, or two digits.
+-- The bytes bs are set as names of one byte each, in order, by `c` or `C`, `t` or `u` words, or two digits, with any motions between them.
+pub data Motion : Cmd → Type 0 where
+  to-place : (x : Axis) (n : ℕ) → Motion (just (to x n))
+  by-way : (x : Axis) (n : ℕ) → Motion (just (by x n))
+
 pub data SetBy : List Cmd → List ℕ → Type 0 where
   none : SetBy [] []
   c-or-C : (b : ℕ) (cs : List Cmd) (bs : List ℕ) → SetBy cs bs → SetBy (just (glyph (b ∷ [])) ∷ cs) (b ∷ bs)
   t-or-u : (n : ℕ) (ps : List ℕ) (cs : List Cmd) (bs : List ℕ) → SetBy cs bs → SetBy (word n ps ∷ cs) (ps ++ bs)
   two-digits : (n b : ℕ) (cs : List Cmd) (bs : List ℕ) → SetBy cs bs → SetBy (pair n b ∷ cs) (b ∷ bs)
-
-pub data Motion : Cmd → Type 0 where
-  to-place : (x : Axis) (n : ℕ) → Motion (just (to x n))
-  by-way : (x : Axis) (n : ℕ) → Motion (just (by x n))
+  motion : (c : Cmd) (cs : List Cmd) (bs : List ℕ) → Motion c → SetBy cs bs → SetBy (c ∷ cs) bs
 
 -- two streams' commands are the same, but for that, and for motions
 pub data SetOtherwise : List Cmd → List Cmd → Type 0 where
@@ -313,7 +399,7 @@ AlikeAnswerAlike = (s list s₂ list₂ q : List ℕ) (rs rs₂ : List Record) (
     → length gs ≤ length rs → length gs₂ ≤ length rs₂ → length is ≤ length hs → length is ≤ length hs₂
     → SameList r r₂ hs′ hs₂′ × (r ≡ F.Accepted (length gs) (length is))
 
--- ==== what the demands rest on: room, and judging
+-- ==== beside the demands: too little room, and judging
 
 -- refusal 13: "records, entries, hits or spelling need more room than lent, or the spelling is over 16,777,216 bytes; offset 0". "13 comes
 -- last, when all else passed", and "is given exactly for its reason".

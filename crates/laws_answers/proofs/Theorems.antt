@@ -24,8 +24,10 @@ use Rattle.laws_read.specs.Outline.{Sign, byteSign, signsOf, outline, keysFrom}
 use Rattle.laws_read.proofs.Runs.{well}
 use Rattle.laws_read.proofs.Play.{spelling-read, spelling-again}
 use Rattle.laws_read.proofs.Alike.{glyphsOf, keys-of}
-use Rattle.laws_read.specs.Kept.{unmotioned}
-use Rattle.laws_read.proofs.Kept.{spelling-kept}
+use Rattle.laws_read.specs.Kept.{unmotioned, allKept}
+use Rattle.laws_read.proofs.Kept.{spelling-kept, commands-kept}
+use Rattle.laws_read.specs.Spots.{spotsOf}
+use Rattle.laws_read.proofs.Spots.{spelling-spots}
 use Rattle.laws_read.proofs.Placed.{didGo, seen-follow, seen-goes, goes-well, says, finish-well}
 use Rattle.laws_read.proofs.Spells.{played-fair, house-good}
 use Rattle.laws_print.proofs.Trip.{placed, round-trip, bare-placed, placed-ended}
@@ -142,6 +144,8 @@ pub record Again (s list t : List ℕ) : Type 0 where
   pub alike : seen (read t list) ≡ seen (read s list)
   pub same : respell t list ≡ spelled t
   pub kept : (w : Widths) → widthList list ≡ sound w → unmotioned (actsOf w t) ≡ unmotioned (actsOf w s)
+  pub kept-commands : allKept (cmdsOf t) ≡ allKept (cmdsOf s)
+  pub places : (w : Widths) → widthList list ≡ sound w → spotsOf w start (cmdsOf t) ≡ spotsOf w start (cmdsOf s)
 
 pub again : (s list t : List ℕ) → respell s list ≡ spelled t → Again s list t
 unfolding respell
@@ -156,12 +160,15 @@ again s list t h = first (spelt (spellWith s (widthList list)) t (read s list) h
         let b : Accepted t list = sym (seen-goes (read t list)) ∙ ap didGo r ∙ seen-goes (read s list) ∙ a in
         let x : spellAll (spelling (z .widths) (cmdsOf t)) ≡ t = rw (← e) (spelling-text (z .widths) s g) in
         let kept-here : unmotioned (actsOf (z .widths) t) ≡ unmotioned (actsOf (z .widths) s) = rw (← e, spelling-bare (z .widths) s g) (spelling-kept (z .widths) (cmdsOf s) g) in
+        let places-here : spotsOf (z .widths) start (cmdsOf t) ≡ spotsOf (z .widths) start (cmdsOf s) = rw (← e, spelling-bare (z .widths) s g) (spelling-spots (z .widths) (cmdsOf s) g) in
         record {
           stream-accepted = a;
           spelling-accepted = b;
           alike = r;
           same = rw (z .list-sound, x) (spells t (read t list) b f);
           kept = λ w q. rw (← sound-same (z .widths) w (sym (z .list-sound) ∙ q)) kept-here;
+          kept-commands = rw (← e, spelling-bare (z .widths) s g) (commands-kept (z .widths) (cmdsOf s) g);
+          places = λ w q. rw (← sound-same (z .widths) w (sym (z .list-sound) ∙ q)) places-here;
         }
 
     second : (z : SoundInputs s list) → Spelt (spellWith s (widthList list)) t (read s list) → Again s list t
@@ -200,6 +207,8 @@ roundTrip s list t h = go (again s list t h)
       spelling-accepted = a .spelling-accepted;
       same = same-reading (read t list) (read s list) (a .spelling-accepted) (a .stream-accepted) (a .alike);
       kept = a .kept;
+      kept-commands = a .kept-commands;
+      places = a .places;
     }
 
 pub fixedPoint : FixedPoint

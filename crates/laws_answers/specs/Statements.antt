@@ -17,7 +17,8 @@ use Rattle.rules.specs.Record.{GlyphRow, ItemRow, Answer, refuse, answer}
 use Rattle.rules.specs.Find.{Wanted, Key, Query, wellFormed, query, hitsFrom}
 use Rattle.rules.specs.Answers.{streamMost, isOver, readWith, read, readInto, isAccepted, Spelling, notSpelled, spelled, respell, respellInto, Found, notFound, found, keyOf, findWith, find, findInto, judge}
 use Rattle.laws_read.specs.Outline.{Sign, signsOf, outline}
-use Rattle.laws_read.specs.Kept.{unmotioned}
+use Rattle.laws_read.specs.Kept.{unmotioned, allKept}
+use Rattle.laws_read.specs.Spots.{spotsOf}
 use Rattle.laws_find.specs.Occurs.{keyAt, QueryShape, OccursAt, Elem, Rising}
 use Rattle.laws_find.specs.Written.{written, GoodQuery}
 
@@ -73,13 +74,15 @@ cmdsOf s = bare (commands 0 0 s)
 abbrev pub actsOf : Widths → List ℕ → List Act
 actsOf w s = played w start (cmdsOf s)
 
--- "Every command but motions is kept in order, repeats too": the spelling's acts but motions are the stream's
-
+-- "Every command but motions is kept in order, repeats too": the spelling's commands but motions are the stream's; and "Before a glyph, `N`,
+-- any `D`, `x X` or `x s`, `H` and then `V` are written": before each of them a reader of the spelling is where a reader of the stream is
 pub record ReadAgain (s list t : List ℕ) : Type 0 where
   pub stream-accepted : Accepted s list
   pub spelling-accepted : Accepted t list
   pub same : SameReading (read t list) (read s list)
   pub kept : (w : Widths) → widthList list ≡ sound w → unmotioned (actsOf w t) ≡ unmotioned (actsOf w s)
+  pub kept-commands : allKept (cmdsOf t) ≡ allKept (cmdsOf s)
+  pub places : (w : Widths) → widthList list ≡ sound w → spotsOf w start (cmdsOf t) ≡ spotsOf w start (cmdsOf s)
 
 abbrev pub RoundTrip : Type 0
 RoundTrip = (s list t : List ℕ) → respell s list ≡ spelled t → ReadAgain s list t

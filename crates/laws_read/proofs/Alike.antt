@@ -3,7 +3,7 @@ use Prim.Native.Nat.{ℕ, _-_}
 use mathlib.Core.Bool.{Bool, true, false}
 use mathlib.Core.List.{List, [], _∷_, _++_, map, map-append, append-assoc, append-nil}
 use mathlib.Core.Option.{Option, none, some}
-use mathlib.Core.Path.{_≡_, refl, sym, ap, ap₂, _∙_}
+use mathlib.Core.Path.{_≡_, refl, sym, ap, ap₂, subst, _∙_}
 use lib.Dec.{ltb}
 use Rattle.rules.specs.Bytes.{if_then_else_, origin}
 use Rattle.rules.specs.Act.{Axis, across, Act, glyph, index, to, by, page, font, size, colour, break, space, draw, device, resolution, init, file, mount, plain, raw, stop, Cmd, just, word, pair}
@@ -23,9 +23,13 @@ abbrev pub glyphsOf : Step → List Glyph
 glyphsOf (refused n) = []
 glyphsOf (went e gs is) = gs
 
+-- what went so has these signs, whatever comes behind it
+abbrev pub ShownBy : Env → List Sign → Step → Type 0
+ShownBy e ls (refused n) = Unit {0}
+ShownBy e ls (went e′ gs is) = (ms : List Sign) → map key gs ++ keysFrom (e′ .ordinal) (e′ .gap) ms ≡ keysFrom (e .ordinal) (e .gap) (ls ++ ms)
+
 abbrev Shown : Env → Act → Step → Type 0
-Shown e a (refused n) = Unit {0}
-Shown e a (went e′ gs is) = (ms : List Sign) → map key gs ++ keysFrom (e′ .ordinal) (e′ .gap) ms ≡ keysFrom (e .ordinal) (e .gap) (signs a ++ ms)
+Shown e a x = ShownBy e (signs a) x
 
 if-shown : (e : Env) (a : Act) (b : Bool) (x : Step) (n : ℕ) → (b ≡ true → Shown e a x) → Shown e a (if b then x else refused n)
 if-shown e a true x n f = f refl
@@ -38,7 +42,7 @@ module _ (e : Env) where
 
   by-index : (n f : ℕ) → Shown e (index n) (indexed e n f)
   unfolding keysFrom
-  by-index n f = on (ltb n origin) (λ k. rw k (λ ms. rw k)) (λ k. rw k (λ ms. rw k))
+  by-index n f = on (ltb n origin) (λ k. rw k (λ ms. refl)) (λ k. rw k (λ ms. refl))
 
   effect-shown : (a : Act) → Shown e a (effect e a)
   unfolding keysFrom
@@ -69,22 +73,35 @@ module _ (e : Env) where
 
 -- ---- acts, then commands
 
-pub keys-of-acts : (xs : List Act) (e : Env) → well (run e xs) ≡ true → map key (glyphsOf (run e xs)) ≡ keysFrom (e .ordinal) (e .gap) (outlineActs xs)
-unfolding run keysFrom outlineActs
-keys-of-acts [] e h = refl
-keys-of-acts (a ∷ xs) e h = go (act e a) (act-shown e a) (λ d k. keys-of-acts xs d k) h
+run-shown : (xs : List Act) (e : Env) → ShownBy e (outlineActs xs) (run e xs)
+unfolding run outlineActs
+run-shown [] e = λ ms. refl
+run-shown (a ∷ xs) e = go (act e a) (act-shown e a) (λ d. run-shown xs d)
   where
-    after : (gs : List Glyph) (is : List Item) (x : Step) → well x ≡ true → map key (glyphsOf (before gs is x)) ≡ map key gs ++ map key (glyphsOf x)
-    after gs is (refused n) h = no h
-    after gs is (went d gs′ is′) h = map-append key gs gs′
+    after : (d : Env) (gs : List Glyph) (is : List Item) → ShownBy e (signs a) (went d gs is) → (x : Step) → ShownBy d (outlineActs xs) x → ShownBy e (signs a ++ outlineActs xs) (before gs is x)
+    after d gs is s (refused n) k = tt
+    after d gs is s (went d′ gs′ is′) k = λ ms.
+        ap (λ (l : List Key). l ++ keysFrom (d′ .ordinal) (d′ .gap) ms) (map-append key gs gs′)
+        ∙ append-assoc (map key gs) (map key gs′) (keysFrom (d′ .ordinal) (d′ .gap) ms)
+        ∙ ap (λ (l : List Key). map key gs ++ l) (k ms)
+        ∙ s (outlineActs xs ++ ms)
+        ∙ ap (keysFrom (e .ordinal) (e .gap)) (sym (append-assoc (signs a) (outlineActs xs) ms))
 
-    go : (x : Step) → Shown e a x → ((d : Env) → well (run d xs) ≡ true → map key (glyphsOf (run d xs)) ≡ keysFrom (d .ordinal) (d .gap) (outlineActs xs))
-        → well (andThen x (λ d. run d xs)) ≡ true
-        → map key (glyphsOf (andThen x (λ d. run d xs))) ≡ keysFrom (e .ordinal) (e .gap) (signs a ++ outlineActs xs)
-    go (refused n) s more h = no h
-    go (went d gs is) s more h =
-        let k : well (run d xs) ≡ true = well-before gs is (run d xs) h in
-        after gs is (run d xs) k ∙ ap (λ (l : List Key). map key gs ++ l) (more d k) ∙ s (outlineActs xs)
+    go : (x : Step) → ShownBy e (signs a) x → ((d : Env) → ShownBy d (outlineActs xs) (run d xs)) → ShownBy e (signs a ++ outlineActs xs) (andThen x (λ d. run d xs))
+    go (refused n) s more = tt
+    go (went d gs is) s more = after d gs is s (run d xs) (more d)
+
+-- with nothing behind it
+pub shown-keys : (e : Env) (ls : List Sign) (d : Env) (gs : List Glyph) (is : List Item) → ShownBy e ls (went d gs is) → map key gs ≡ keysFrom (e .ordinal) (e .gap) ls
+unfolding keysFrom
+shown-keys e ls d gs is s = sym (append-nil (map key gs)) ∙ s [] ∙ ap (keysFrom (e .ordinal) (e .gap)) (append-nil ls)
+
+pub keys-of-acts : (xs : List Act) (e : Env) → well (run e xs) ≡ true → map key (glyphsOf (run e xs)) ≡ keysFrom (e .ordinal) (e .gap) (outlineActs xs)
+keys-of-acts xs e h = go (run e xs) (run-shown xs e) h
+  where
+    go : (x : Step) → ShownBy e (outlineActs xs) x → well x ≡ true → map key (glyphsOf x) ≡ keysFrom (e .ordinal) (e .gap) (outlineActs xs)
+    go (refused n) s h = no h
+    go (went d gs is) s h = shown-keys e (outlineActs xs) d gs is s
 
 outline-append : (xs ys : List Act) → outlineActs (xs ++ ys) ≡ outlineActs xs ++ outlineActs ys
 unfolding outlineActs
@@ -116,6 +133,13 @@ module _ (w : Widths) where
   acts-outlined e (just a) = append-nil (signs a)
   acts-outlined e (word n bs) = ready-outlined e (word n bs) (wordIn w e n bs) (e .font) (λ f. word-outlined n (w .fonts) (mountedAt f (e .mounts)) _ bs)
   acts-outlined e (pair n b) = ready-outlined e (pair n b) (λ f. these (by across n ∷ glyph (b ∷ []) ∷ [])) (e .font) (λ f. refl)
+
+  pub step-shown : (e : Env) (c : Cmd) → ShownBy e (signsOf c) (perform e (acts w e c))
+  step-shown e c = go (acts w e c) (acts-outlined e c)
+    where
+      go : (x : Acts) → Outlined c x → ShownBy e (signsOf c) (perform e x)
+      go (noActs n) o = tt
+      go (these xs) o = subst (λ (ls : List Sign). ShownBy e ls (run e xs)) o (run-shown xs e)
 
   pub outline-played : (cs : List Cmd) (e : Env) → well (steps w e cs) ≡ true → outlineActs (played w e cs) ≡ outline cs
   unfolding steps played outline outlineActs

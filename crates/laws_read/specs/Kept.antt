@@ -1,7 +1,8 @@
 -- The acts of a list of commands that are no motions, in order: what the house spelling keeps.
+use Prim.Native.Nat.{ℕ}
 use mathlib.Core.Bool.{Bool, true, false}
-use mathlib.Core.List.{List, [], _∷_, _++_}
-use Rattle.rules.specs.Act.{Act, glyph, index, to, by, page, font, size, colour, break, space, draw, device, resolution, init, file, mount, plain, raw, stop}
+use mathlib.Core.List.{List, [], _∷_, _++_, map}
+use Rattle.rules.specs.Act.{Act, glyph, index, to, by, page, font, size, colour, break, space, draw, device, resolution, init, file, mount, plain, raw, stop, Cmd, just, word, pair}
 
 abbrev pub unmoved : Act → List Act
 unmoved (glyph n) = glyph n ∷ []
@@ -27,3 +28,16 @@ unmoved stop = stop ∷ []
 unfoldable pub unmotioned : List Act → List Act
 unmotioned [] = []
 unmotioned (a ∷ xs) = unmoved a ++ unmotioned xs
+
+-- the same of commands: "`t`, `u` and two-digit commands become single glyphs"
+abbrev pub singleGlyph : ℕ → Act
+singleGlyph b = glyph (b ∷ [])
+
+abbrev pub keptOf : Cmd → List Act
+keptOf (just a) = unmoved a
+keptOf (word n bs) = map singleGlyph bs
+keptOf (pair n b) = singleGlyph b ∷ []
+
+unfoldable pub allKept : List Cmd → List Act
+allKept [] = []
+allKept (c ∷ cs) = keptOf c ++ allKept cs

@@ -154,10 +154,11 @@ both-stand (b ∷ x) y (c ∷ l) h =
     let p : (take (length x) l ≡ x) × (take (length y) (drop (length x) l) ≡ y) = both-stand x y l (ap (λ (k : List ℕ). drop 1 k) h) in
     (ap₂ (λ (d : ℕ) (k : List ℕ). d ∷ k) (ap (headOr c) h) (p .0), p .1)
 
--- the bytes of a record's name stand at its place in s, and so within s
+-- the bytes of a record's name stand at its place in s, and so within s; an empty name has place 0
 pub record RowIn (s : List ℕ) (r : GlyphRow) : Type 0 where
   pub stands : Stands (r .glyph .name) (r .place) s
   pub within : r .place + length (r .glyph .name) ≤ length s
+  pub unnamed : length (r .glyph .name) ≡ 0 → r .place ≡ 0
 
 abbrev pub AllRows : List ℕ → List GlyphRow → Type 0
 AllRows s [] = Unit {0}
@@ -176,10 +177,15 @@ AllItems·append : (s : List ℕ) (xs ys : List ItemRow) → AllItems s xs → A
 AllItems·append s [] ys h k = k
 AllItems·append s (x ∷ xs) ys h k = (h .0, AllItems·append s xs ys (h .1) k)
 
+-- "an `N` name has place 0"
+no-name : (a : ℕ) (n : List ℕ) → length n ≡ 0 → namePlace a n ≡ 0
+no-name a [] k = refl
+no-name a (b ∷ n) k = absurd (omega (arith, k))
+
 module _ (s : List ℕ) where
   -- a record of this name, its place as the rules have it
   row-in : (g : Glyph) (a : ℕ) → Stands (g .name) a s → RowIn s (record { glyph = g; place = namePlace a (g .name) })
-  row-in g a h = record { stands = at-name (g .name) h; within = in-name (g .name) h }
+  row-in g a h = record { stands = at-name (g .name) h; within = in-name (g .name) h; unnamed = no-name a (g .name) }
     where
       at-name : (n : List ℕ) → Stands n a s → Stands n (namePlace a n) s
       at-name [] k = refl
