@@ -232,7 +232,7 @@ mrkvandel_respell_result mrkvandel_respell(const uint8_t *stream, size_t stream_
  * Accepted (refusal 0): the reader accepts it with a row of `records` records and one of `entries` entries, the finder with a row of
  * `records` records and one of as many hits (where nothing is against the query), the rewriter with a buffer of `spelling` bytes, or,
  * where `spelling` is MRKVANDEL_SPELLING_LIMIT + 1, with none: then the spelling is over its limit, and the rewriter refuses it as 13.
- * With less room the reader and the rewriter refuse it as 13. (All proved: `Judged` in crates/theorems.)
+ * With less room the reader and the rewriter refuse it as 13. (All proved: `Judge` and `NoRoom` in crates/demands, `Judged` in crates/laws_answers.)
  * Refused: the reader and the rewriter refuse it with the same number and offset, whatever the room. It is 1 to 11, never 12 or 13.
  */
 mrkvandel_judge_result mrkvandel_judge(const uint8_t *stream, size_t stream_len, const uint8_t *widths, size_t widths_len);

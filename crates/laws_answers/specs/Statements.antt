@@ -26,7 +26,7 @@ use Rattle.laws_find.specs.Written.{written, GoodQuery}
 abbrev pub Accepted : List ℕ → List ℕ → Type 0
 Accepted s list = isAccepted (read s list) ≡ true
 
--- ---- demand 2: "whenever it gives one, reading it yields the same glyphs, drawings, controls, pages and end position, and
+-- ---- demand 2: "Whenever it gives one, reading that spelling yields the same glyphs, drawings, controls, pages and end position, and
 -- rewriting it changes nothing"
 
 -- what the reader yields, places in the stream aside: a glyph has all that its record holds and the bytes of its name; a drawing
@@ -119,7 +119,8 @@ NamesOf s (answer rs xs e) = NamesIn s rs
 abbrev pub NamesStand : Type 0
 NamesStand = (s list : List ℕ) → NamesOf s (read s list)
 
--- ---- demand 3: "the number of every record at which the query occurs by 01's rule, each once, earliest first, no other"
+-- ---- demand 3: "the number of every glyph record of the stream at which the query occurs by 01's rule, each once, earliest first, and no
+-- other"
 
 -- the records are the reader's, the numbers are rising, each is one at which the query occurs, and each of those is there
 pub record Exact (s list q : List ℕ) (rs : List GlyphRow) (is : List ℕ) : Type 0 where
@@ -161,7 +162,7 @@ abbrev pub told : Found → Told
 told (notFound n at) = refusedAt n at
 told (found rs is) = listed is (length rs)
 
--- ---- "whichever of t, u, c, C or the two-digit form set a one-byte name"
+-- ---- "by which of t, u, c, C or the old two-digit form a one-byte name was set"
 
 -- the outline of a stream's commands has the names, gaps and pages alone
 abbrev pub ByOutline : Type 0
@@ -188,8 +189,8 @@ pub record ByAnyCommand : Type 0 where
   pub by-two-digits : (n b : ℕ) → signsOf (pair n b) ≡ signsOf (single b)
   pub word-by-glyphs : (n : ℕ) (bs : List ℕ) (cs : List Cmd) → outline (word n bs ∷ cs) ≡ outline (map single bs ++ cs)
 
--- ---- "two accepted streams with equally many records, alike in name bytes, gap mark and page ordinal, give every well-formed
--- query the same answer"
+-- ---- "any two accepted streams .. that have equally many records, record by record alike in name bytes, gap mark and page ordinal. On both
+-- .. every well-formed query gives the same list and the same numbers."
 
 abbrev pub Alike : List ℕ → List GlyphRow → List ℕ → List GlyphRow → Type 0
 Alike s [] s′ [] = Unit {0}

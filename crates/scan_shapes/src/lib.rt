@@ -131,7 +131,7 @@ pub fn by_four(s: &[u8], at: usize, i: usize, letter: u8) -> Command
     }
 }
 
-// d is read and begins at pa: perhaps a dummy stands at i.
+// d is read and begins at pd: perhaps a dummy stands at i.
 fn with_dummy(
     s: &[u8],
     at: usize,
