@@ -32,9 +32,9 @@ use Rattle.laws_offsets.specs.Offsets.{FindOffset, OrRoom, Said}
 use Rattle.laws_offsets.proofs.Offsets.{offsets}
 use Rattle.laws_offsets.proofs.ByNumber.{by-number}
 use Rattle.laws_offsets.proofs.Exactly.{exactly}
-use Rattle.demands.specs.Demands.{Allowed, Accepted, recorded, set, UnnamedAt0, IsAccepted, WellFormed, ListOf, FoundAll, SetBy, none, c-or-C, t-or-u, two-digits, motion, Motion, to-place, by-way, SetOtherwise, ended, same, otherwise, moved, moved₂, FiveForms, SameList, Alike}
+use Rattle.demands.specs.Demands.{Allowed, Accepted, recorded, set, IsAccepted, WellFormed, ListOf, FoundAll, SetBy, none, c-or-C, t-or-u, two-digits, motion, Motion, to-place, by-way, SetOtherwise, ended, same, otherwise, moved, moved₂, FiveForms, SameList, Alike}
 use Rattle.demands.proofs.Allowed.{ReadsTo, allowed-reads, allowed-accepted, commands-are, Stream, read-allowed}
-use Rattle.demands.proofs.ReadCalls.{take-over, drop-over, length-over, glyphs-seen, unnamed-at-0, rows-stand, Rows, accepted-call}
+use Rattle.demands.proofs.ReadCalls.{take-over, drop-over, length-over, glyphs-seen, rows-stand, Rows, accepted-call}
 
 abbrev glyphsIn : List GlyphRow → List Glyph
 glyphsIn rs = map (λ (r : GlyphRow). r .glyph) rs
@@ -138,7 +138,6 @@ pub record Finds (s list q : List ℕ) (gs : List Glyph) (is : List ℕ) : Type 
   pub found-is : find s list q ≡ found rows is
   pub glyphs-are : glyphsIn rows ≡ gs
   pub stand : map (recorded s) (map recordOf rows) ≡ map set gs
-  pub unnamed : UnnamedAt0 (map recordOf rows)
 
 finds : (s list q : List ℕ) (gs : List Glyph) (qs : List Wanted) (is : List ℕ) → Accepted s list gs → WellFormed q qs → ListOf qs gs is → Finds s list q gs is
 finds s list q gs qs is a w l = record {
@@ -146,7 +145,6 @@ finds s list q gs qs is a w l = record {
   found-is = answered .accepted s list q qs accepted asked short ∙ rw (ap rowsIn (to .read-is)) (ap (found (to .rows)) list-is);
   glyphs-are = to .glyphs-are;
   stand = glyphs-seen s (to .rows) (rows-stand s list (to .rows) (to .items) (a .end) (to .read-is)) ∙ ap (map set) (to .glyphs-are);
-  unnamed = unnamed-at-0 s (to .rows) (rows-stand s list (to .rows) (to .items) (a .end) (to .read-is));
 }
   where
     to : ReadsTo s list (a .end) gs (a .items)
@@ -190,7 +188,6 @@ module _ (s list q : List ℕ) (rs : List Record) (hs : List ℕ) (r : Finding) 
         list = take-over (length is) is hs hs′ refl hits;
         numbers = c .answer ∙ ap findingOf e ∙ ap (λ (i : ℕ). F.Accepted i (length is)) (count-rows gs (f .rows) (f .glyphs-are));
         records = ap (map (recorded s)) (take-over (length gs) (map recordOf (f .rows)) rs rs′ n rows) ∙ f .stand;
-        unnamed = subst UnnamedAt0 (sym (take-over (length gs) (map recordOf (f .rows)) rs rs′ n rows)) (f .unnamed);
         list-behind = drop-over (length is) is hs hs′ refl hits;
         records-behind = drop-over (length gs) (map recordOf (f .rows)) rs rs′ n rows;
       }

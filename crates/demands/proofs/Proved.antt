@@ -83,6 +83,9 @@ record-each s list rs es r rs′ es′ w end gs xs c l p q a = read-calls.record
 pub names-in-place : D.NamesInPlace
 names-in-place s list rs es r rs′ es′ w end gs xs c l p q a = places.names-in-place s list rs es r rs′ es′ c w end gs xs l a p q
 
+pub entries-in-place : D.EntriesInPlace
+entries-in-place s list rs es r rs′ es′ w end gs xs c l p q a = places.entries-in-place s list rs es r rs′ es′ c w end gs xs l a p q
+
 pub as-01-gives : D.As01Gives
 as-01-gives = record {
   numbers = numbers-hold;

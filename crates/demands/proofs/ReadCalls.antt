@@ -26,7 +26,7 @@ use Rattle.laws_offsets.specs.Offsets.{ReadOffset, OrRoom, Said}
 use Rattle.laws_offsets.proofs.Offsets.{offsets}
 use Rattle.laws_offsets.proofs.ByNumber.{by-number}
 use Rattle.laws_offsets.proofs.Exactly.{exactly}
-use Rattle.demands.specs.Demands.{SoundList, Allowed, SeenGlyph, recorded, set, UnnamedAt0, SeenEntry, entered, drawn, IsAccepted, RecordedAll, RecordEach}
+use Rattle.demands.specs.Demands.{SoundList, Allowed, SeenGlyph, recorded, set, SeenEntry, entered, drawn, IsAccepted, RecordedAll, RecordEach}
 use Rattle.demands.proofs.Allowed.{ReadsTo, allowed-reads, Stream, read-allowed}
 
 -- ---- rows
@@ -68,10 +68,6 @@ glyphs-seen s (g ∷ gs) h = ap₂ (λ (x : SeenGlyph) (l : List SeenGlyph). x �
   where
     one : (r : GlyphRow) → RowIn s r → recorded s (recordOf r) ≡ set (r .glyph)
     one r k = ap (named (r .glyph)) (k .stands)
-
-pub unnamed-at-0 : (s : List ℕ) (gs : List GlyphRow) → AllRows s gs → UnnamedAt0 (map recordOf gs)
-unnamed-at-0 s [] h = tt
-unnamed-at-0 s (g ∷ gs) h = (h .0 .unnamed, unnamed-at-0 s gs (h .1))
 
 items-seen : (xs : List ItemRow) → map entered (map entryOf xs) ≡ map drawn (itemsIn xs)
 items-seen [] = refl
@@ -180,11 +176,6 @@ module _ (s list : List ℕ) (rs : List Record) (es : List Entry) (r : Reading) 
       ap (map (recorded s)) (take-over (length (x .glyphs)) (map recordOf (x .glyphs)) rs rs′ (sym (length-map (x .glyphs) recordOf)) (x .records))
       ∙ glyphs-seen s (x .glyphs) (rows-stand s list (x .glyphs) (x .items) (x .env) (x .read-is))
 
-  pub unnamed-records : (x : Rows) → UnnamedAt0 (take (length (x .glyphs)) rs′)
-  unnamed-records x =
-      subst UnnamedAt0 (sym (take-over (length (x .glyphs)) (map recordOf (x .glyphs)) rs rs′ (sym (length-map (x .glyphs) recordOf)) (x .records)))
-      (unnamed-at-0 s (x .glyphs) (rows-stand s list (x .glyphs) (x .items) (x .env) (x .read-is)))
-
   pub seen-entries : (x : Rows) → map entered (take (length (x .items)) es′) ≡ map drawn (itemsIn (x .items))
   seen-entries x =
       ap (map entered) (take-over (length (x .items)) (map entryOf (x .items)) es es′ (sym (length-map (x .items) entryOf)) (x .entries)) ∙ items-seen (x .items)
@@ -195,7 +186,6 @@ module _ (s list : List ℕ) (rs : List Record) (es : List Entry) (r : Reading) 
       let m : length (itemsIn (x .items)) ≡ length (x .items) = length-map (x .items) (λ (y : ItemRow). y .item) in
       record {
         glyphs = rw n (seen-records x);
-        unnamed = rw n (unnamed-records x);
         drawings-and-controls = rw m (seen-entries x);
         answer = rw (n, m) (ap (λ (y : Reading). y .answer) (x .answer-is));
         glyph-colour = ap (λ (y : Reading). y .glyph) (x .answer-is);

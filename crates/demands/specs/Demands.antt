@@ -4,7 +4,7 @@
 -- s is a stream, list a width list, q a query; rs, es and hs are the lent rows of records, entries and record numbers, o is the lent
 -- buffer; r is the answer, and what the rows and the buffer hold afterwards has a prime.
 use Prim.Native.Nat.{ℕ, _+_, _-_, _<_, _≤_}
-use mathlib.Core.Bool.{true, false}
+use mathlib.Core.Bool.{Bool, true, false}
 use mathlib.Core.List.{List, [], _∷_, _++_, map}
 use mathlib.Core.Logic.{_⊎_}
 use mathlib.Core.Path.{_≡_}
@@ -20,7 +20,7 @@ use Rattle.rules.specs.declared.Respelling.the-variants as S
 use Rattle.rules.specs.declared.Finding.{Finding}
 use Rattle.rules.specs.declared.Finding.the-variants as F
 use Rattle.rules.specs.declared.Judging.the-variants as J
-use Rattle.rules.specs.Bytes.{bytes, is, isWhite, oneLine, origin}
+use Rattle.rules.specs.Bytes.{if_then_else_, bytes, is, isWhite, oneLine, origin}
 use Rattle.rules.specs.Act.{Axis, Act, glyph, to, by, Cmd, just, word, pair}
 use Rattle.rules.specs.Scan.{got, command}
 use Rattle.rules.specs.Widths.{Widths, sound, widthList}
@@ -35,7 +35,7 @@ use Rattle.laws_read.specs.Spots.{spotsOf}
 use Rattle.laws_find.specs.Occurs.{OccursAt, Elem, Rising}
 use Rattle.laws_find.specs.Written.{written, GoodQuery}
 use Rattle.laws_motion.specs.Motions.{NumberTexts, Motions, Refusal10, Advances, Words}
-use Rattle.laws_motion.specs.Records.{Recorded, Entered, Settings, AnswerHolds}
+use Rattle.laws_motion.specs.Records.{Recorded, letters, isSome, Entered, Settings, AnswerHolds}
 use Rattle.laws_motion.specs.Runs.{InEveryRun, InEveryList}
 use Rattle.laws_offsets.specs.Offsets.{ReadOffset, FindOffset, OrRoom, Said}
 use Rattle.laws_house.specs.Lines.{HouseText}
@@ -93,12 +93,7 @@ recorded s r = record { ordinal = r .ordinal; page = r .page; h = r .h; v = r .v
 abbrev pub set : Glyph → SeenGlyph
 set g = record { ordinal = g .ordinal; page = shown (g .number); h = shown (g .spot .h); v = shown (g .spot .v); font = g .font; size = g .size; name = g .name; len = length (g .name); index = g .index; gap = g .gap }
 
--- "an `N` name has place 0": a record with an empty name has
-abbrev pub UnnamedAt0 : List Record → Type 0
-UnnamedAt0 [] = Unit {0}
-UnnamedAt0 (r ∷ rs) = (r .len ≡ 0 → r .place ≡ 0) × UnnamedAt0 rs
-
--- what an entry says, its place and length in the stream left out; and what a drawing or control has of it
+-- what an entry says, its place and length in the stream aside (`EntriesInPlace`); and what a drawing or control has of it
 pub record SeenEntry : Type 0 where
   pub command : ℕ
   pub letter : ℕ
@@ -186,11 +181,10 @@ pub record AcceptExactly : Type 0 where
       → (w : Widths) × (end : Env) × (gs : List Glyph) × (xs : List Item) × SoundList list w × Allowed s w end gs xs × (length gs ≤ length rs) × (length xs ≤ length es)
 
 -- "Each glyph is then recorded once, in order, with the name, page, place, font and size 01 gives it." Each drawing and control is entered
--- once, in order; its place and length in the stream are not said here. The answer tells how many of each, the pages, the end position and
--- both colours; and what lies behind them is kept.
+-- once, in order. Where names stand in the stream is said in `NamesInPlace`; where entries do, and their lengths, in `EntriesInPlace`. The
+-- answer tells how many of each, the pages, the end position and both colours; and what lies behind them is kept.
 pub record RecordedAll (s : List ℕ) (end : Env) (gs : List Glyph) (xs : List Item) (rs : List Record) (es : List Entry) (r : Reading) (rs′ : List Record) (es′ : List Entry) : Type 0 where
   pub glyphs : map (recorded s) (take (length gs) rs′) ≡ map set gs
-  pub unnamed : UnnamedAt0 (take (length gs) rs′)
   pub drawings-and-controls : map entered (take (length xs) es′) ≡ map drawn xs
   pub answer : r .answer ≡ R.Accepted (length gs) (length xs) (end .ordinal) (shown (end .spot .h)) (shown (end .spot .v))
   pub glyph-colour : r .glyph ≡ colourOf (end .glyphPaint)
@@ -224,6 +218,33 @@ abbrev pub NamesInPlace : Type 0
 NamesInPlace = (s list : List ℕ) (rs : List Record) (es : List Entry) (r : Reading) (rs′ : List Record) (es′ : List Entry) (w : Widths) (end : Env) (gs : List Glyph) (xs : List Item)
     → ReadCall s list rs es r rs′ es′ → SoundList list w → length gs ≤ length rs → length xs ≤ length es → (a : Allowed s w end gs xs)
     → map (λ (k : Record). k .place) (take (length gs) rs′) ≡ namePlaces s (a .commands) (a .consists) 0
+
+-- "one entry for each `D` or `x` command: .. place and length in the stream from first byte to last argument byte (no argument: to the end
+-- of its letters or word; `x X`: to its last line's end, newline aside)": that many bytes from a place on are the command.
+pub record Stretch : Type 0 where
+  pub place : ℕ
+  pub len : ℕ
+
+abbrev pub stretch : Entry → Stretch
+stretch e = record { place = e .place; len = e .len }
+
+-- whether a command is entered: `letters` has the letters of every `D` and `x`, and none for any other (`laws_motion`, Records.antt)
+abbrev pub isEntered : Cmd → Bool
+isEntered (just a) = isSome (bytes (letters a))
+isEntered (word n ps) = false
+isEntered (pair n b) = false
+
+-- where the `D` and `x` commands of a stream stand, its first byte being at a place
+unfoldable pub entryPlaces : (s : List ℕ) (cs : List Cmd) → ConsistsOf s cs → ℕ → List Stretch
+entryPlaces s cs ended at = []
+entryPlaces s cs (white b r cs′ h c) at = entryPlaces r cs′ c (at + 1)
+entryPlaces s cs (comment b r cs′ h c) at = entryPlaces (drop (oneLine r) r) cs′ c (at + 1 + oneLine r)
+entryPlaces s cs (one b r d name len cs′ w h e c) at = (if isEntered d then record { place = at; len = len } ∷ [] else []) ++ entryPlaces (drop (len - 1) r) cs′ c (at + len)
+
+abbrev pub EntriesInPlace : Type 0
+EntriesInPlace = (s list : List ℕ) (rs : List Record) (es : List Entry) (r : Reading) (rs′ : List Record) (es′ : List Entry) (w : Widths) (end : Env) (gs : List Glyph) (xs : List Item)
+    → ReadCall s list rs es r rs′ es′ → SoundList list w → length gs ≤ length rs → length xs ≤ length es → (a : Allowed s w end gs xs)
+    → map stretch (take (length xs) es′) ≡ entryPlaces s (a .commands) (a .consists) 0
 
 -- "the name, page, place, font and size 01 gives it": what each command does is what 01 says, in integers (`laws_motion`: Motions.antt and
 -- Records.antt have 01's tables once more, apart from the rules that `Allowed` goes by)
@@ -321,7 +342,6 @@ pub record FoundAll (s : List ℕ) (rs : List Record) (hs : List ℕ) (gs : List
   pub list : take (length is) hs′ ≡ is
   pub numbers : r ≡ F.Accepted (length gs) (length is)
   pub records : map (recorded s) (take (length gs) rs′) ≡ map set gs
-  pub unnamed : UnnamedAt0 (take (length gs) rs′)
   pub list-behind : drop (length is) hs′ ≡ drop (length is) hs
   pub records-behind : drop (length gs) rs′ ≡ drop (length gs) rs
 

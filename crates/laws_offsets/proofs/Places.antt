@@ -38,7 +38,7 @@ abbrev Enters : Cmd → Step → Type 0
 Enters c (refused n) = Unit {0}
 Enters c (went e gs xs) = ItemsOf c xs
 
-abbrev Quiet : Step → Type 0
+abbrev pub Quiet : Step → Type 0
 Quiet (refused n) = Unit {0}
 Quiet (went e gs xs) = xs ≡ []
 
@@ -135,14 +135,17 @@ perform-quiet : (e : Env) (x : Acts) → QuietActs x → Quiet (perform e x)
 perform-quiet e (noActs n) h = tt
 perform-quiet e (these ys) h = h e
 
+pub word-enters-none : (w : Widths) (e : Env) (n : ℕ) (bs : List ℕ) → Quiet (perform e (acts w e (word n bs)))
+word-enters-none w e n bs = perform-quiet e (acts w e (word n bs)) (ready-quiet e (wordIn w e n bs) (e .font) (λ f. word-quiet (w .fonts) _ _ bs))
+
+pub pair-enters-none : (w : Widths) (e : Env) (n b : ℕ) → Quiet (perform e (acts w e (pair n b)))
+pair-enters-none w e n b =
+    perform-quiet e (acts w e (pair n b)) (ready-quiet e (λ f. these (by across n ∷ glyph (b ∷ []) ∷ [])) (e .font) (λ f d. pair-quiet d (b ∷ []) n))
+
 step-enters : (w : Widths) (e : Env) (c : Cmd) → Enters c (perform e (acts w e c))
 step-enters w e (just a) = alone-enters e a
-step-enters w e (word n bs) =
-    quiet-enters (word n bs) (perform e (acts w e (word n bs)))
-    (perform-quiet e (acts w e (word n bs)) (ready-quiet e (wordIn w e n bs) (e .font) (λ f. word-quiet (w .fonts) _ _ bs)))
-step-enters w e (pair n b) =
-    quiet-enters (pair n b) (perform e (acts w e (pair n b)))
-    (perform-quiet e (acts w e (pair n b)) (ready-quiet e (λ f. these (by across n ∷ glyph (b ∷ []) ∷ [])) (e .font) (λ f d. pair-quiet d (b ∷ []) n)))
+step-enters w e (word n bs) = quiet-enters (word n bs) (perform e (acts w e (word n bs))) (word-enters-none w e n bs)
+step-enters w e (pair n b) = quiet-enters (pair n b) (perform e (acts w e (pair n b))) (pair-enters-none w e n b)
 
 -- ---- places of names
 
