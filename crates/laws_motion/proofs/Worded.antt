@@ -3,19 +3,20 @@ use Prim.Native.Nat.{ℕ, _+_, _*_, _/_, _≤_, _<_}
 use native.Mathlib.Omega.{arith}
 use native.Mathlib.Nat.{mul-le-mul, mul-div-le, lt-mul-div-succ, le-div-iff-mul-le, div-lt-iff-lt-mul}
 use mathlib.Core.Bool.{Bool, true, false}
-use mathlib.Core.List.{List, [], _∷_, map}
+use mathlib.Core.List.{List, [], _∷_, map, append-nil}
 use mathlib.Core.Logic.{inl, inr, ⊎-elim}
 use mathlib.Core.Option.{Option, none, some}
-use mathlib.Core.Path.{_≡_, refl, sym, ap, _∙_}
+use mathlib.Core.Path.{_≡_, refl, sym, ap, ap₂, _∙_}
 use lib.Dec.{ltb}
 use lib.IntN.{ℤ, pos, negℤ, _+ℤ_, +ℤ-assoc, +ℤ-idr}
 use Rattle.rules.specs.Bytes.{origin}
-use Rattle.rules.specs.Act.{across, Act, glyph, by, word, pair}
+use Rattle.rules.specs.Act.{across, Act, glyph, by, just, word, pair}
 use Rattle.rules.specs.Widths.{Widths, Font, widthOf, advance}
-use Rattle.rules.specs.State.{put, fits, plus, mountedAt, Env, setGap, setSpot, Glyph, Item, glyphOf, Step, refused, went, before, onPage, act, run, recorded, Acts, noActs, these, ready, byteActs, wordActs, wordIn, acts, perform}
+use Rattle.rules.specs.State.{put, fits, plus, mountedAt, Env, setGap, setSpot, Glyph, Item, glyphOf, Step, refused, went, before, andThen, onPage, act, run, recorded, Acts, noActs, these, ready, byteActs, wordActs, wordIn, acts, perform}
 use Rattle.rules.specs.Record.{shown}
 use Rattle.laws.proofs.Cases.{on, no}
 use Rattle.laws_motion.proofs.Steps.{isRefused, After, if-after, font-after, act-after, after-map, then-after}
+use Rattle.laws_motion.proofs.Lookup.{width-says}
 use Rattle.laws_motion.proofs.Moved.{by-place, by-in, by-not, clash}
 use Rattle.laws_motion.specs.Motions.{sum, InLimit, Beyond, Nearest, Advances, Grows, hAt, hAfter, SomeBeyond, glyphH, glyphV, WordMoved, WordRefused, Words}
 
@@ -194,7 +195,7 @@ by-grows w e f n [] [] h = tt
 by-grows w e f n [] (z ∷ zs) h = h
 by-grows w e f n (b ∷ bs) [] h = h
 by-grows w e f n (b ∷ bs) (z ∷ zs) h =
-    ((h .0 .0, h .0 .1, h .0 .2 ∙ +ℤ-assoc (pos (advance (h .0 .0) (e .size) (w .unitwidth) (e .quantum))) (pos n) (negℤ (pos origin))), by-grows w e f n bs zs (h .1))
+    ((h .0 .0, width-says (mountedAt f (e .mounts)) b (h .0 .0) (w .fonts) (h .0 .1), h .0 .2 ∙ +ℤ-assoc (pos (advance (h .0 .0) (e .size) (w .unitwidth) (e .quantum))) (pos n) (negℤ (pos origin))), by-grows w e f n bs zs (h .1))
 
 -- where a word or two digits may begin
 ready-after : (P : Env → List Glyph → List Item → Type 0) (e : Env) (go : ℕ → Acts) (o : Option ℕ) → e .font ≡ o → ((f : ℕ) → e .font ≡ some f → After P (perform e (go f)))
@@ -293,8 +294,19 @@ pair-refused w e n b ys q = go (e .font) refl q
         (λ p. on (ltb 0 (e .size)) (λ s. rw (p, s) (pair-exactly e n b (f, k, p, s))) (λ s. no (ap isThese (rw (p, s) at t))))
         (λ p. no (ap isThese (rw p at t)))
 
+-- a command of one act
+single-again : (s : Step) → andThen s (λ d. run d []) ≡ s
+unfolding run
+single-again (refused n) = refl
+single-again (went d gs xs) = ap₂ (went d) (append-nil gs) (append-nil xs)
+
+single : (w : Widths) (e : Env) (a : Act) → perform e (acts w e (just a)) ≡ act e a
+unfolding run
+single w e a = single-again (act e a)
+
 pub words-hold : Words
 words-hold = record {
+  single = single;
   t-number = refl;
   moved-on = λ w e e′ gs xs n bs k. rw k at (word-moved w e n bs);
   refusal-10 = word-refused;

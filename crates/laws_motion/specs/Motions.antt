@@ -11,8 +11,8 @@ use mathlib.Core.Path.{_≡_}
 use lib.IntN.{ℤ, pos, negℤ, natAbs, _+ℤ_}
 use lib.ListN.{length, getD}
 use Rattle.rules.specs.Bytes.{if_then_else_, origin, Num, moved, near}
-use Rattle.rules.specs.Act.{across, down, Shape, line, arc, circle, solidCircle, ellipse, solidEllipse, polygon, solidPolygon, spline, thickness, grayFill, colourFill, Act, glyph, index, to, by, page, font, size, colour, break, space, draw, device, resolution, init, file, mount, plain, raw, stop, word, pair}
-use Rattle.rules.specs.Widths.{Widths, widthOf, advance}
+use Rattle.rules.specs.Act.{across, down, Shape, line, arc, circle, solidCircle, ellipse, solidEllipse, polygon, solidPolygon, spline, thickness, grayFill, colourFill, Act, glyph, index, to, by, page, font, size, colour, break, space, draw, device, resolution, init, file, mount, plain, raw, stop, just, word, pair}
+use Rattle.rules.specs.Widths.{Width, Font, Widths, advance}
 use Rattle.rules.specs.State.{Env, Glyph, Item, mountedAt, due, refused, went, act, these, acts, perform}
 use Rattle.rules.specs.Record.{shown}
 
@@ -220,6 +220,18 @@ pub record Advances : Type 0 where
   pub nearest : (w s k m : ℕ) → 1 ≤ k → 1 ≤ m → Nearest w s k m (advance w s k m)
   pub no-other : (w s k m a : ℕ) → 1 ≤ k → 1 ≤ m → Nearest w s k m a → a ≡ advance w s k m
 
+-- ---- "Widths": the width of a byte. Nothing here rests on the rules' own look-up (`widthOf`, `widthIn`).
+
+-- "pairs `byte=N`, `width=N`, bytes strictly rising": the pair of the byte b, of which there is at most one, has the width x
+abbrev pub Paired : ℕ → ℕ → List Width → Type 0
+Paired b x [] = ⊥
+Paired b x (p ∷ ps) = ((p .byte ≡ b) × (p .width ≡ x)) ⊎ ((p .byte ≡ b → ⊥) × Paired b x ps)
+
+-- "blocks, each `font=NAME`", "Font names .. differ": the block of this name, of which there is at most one, has the width x for the byte b
+abbrev pub Says : List Font → List ℕ → ℕ → ℕ → Type 0
+Says [] name b x = ⊥
+Says (f ∷ fs) name b x = ((f .name ≡ name) × Paired b x (f .widths)) ⊎ ((f .name ≡ name → ⊥) × Says fs name b x)
+
 -- ---- words and two digits
 
 -- "`t` word: each byte a glyph; h grows by its width after each", "`u` n word: as `t`, h grows by width + n after each": zs are the numbers
@@ -230,7 +242,7 @@ Grows w e f n [] [] = Unit {0}
 Grows w e f n [] (z ∷ zs) = ⊥
 Grows w e f n (b ∷ bs) [] = ⊥
 Grows w e f n (b ∷ bs) (z ∷ zs) =
-    ((x : ℕ) × (widthOf (mountedAt f (e .mounts)) b (w .fonts) ≡ some x) × (z ≡ pos (advance x (e .size) (w .unitwidth) (e .quantum)) +ℤ n))
+    ((x : ℕ) × Says (w .fonts) (mountedAt f (e .mounts)) b x × (z ≡ pos (advance x (e .size) (w .unitwidth) (e .quantum)) +ℤ n))
     × Grows w e f n bs zs
 
 -- h at each glyph, the first at h; and h behind each
@@ -273,6 +285,8 @@ pub record WordRefused (w : Widths) (e : Env) (n : ℕ) (bs : List ℕ) : Type 0
   pub only : perform e (acts w e (word n bs)) ≡ refused 10 → SomeBeyond (hAfter (shown (e .spot .h)) growth)
 
 pub record Words : Type 0 where
+  -- every other command is one act, so whatever is said of acts is said of commands
+  pub single : (w : Widths) (e : Env) (a : Act) → perform e (acts w e (just a)) ≡ act e a
   -- the number of a `t` word
   pub t-number : shown origin ≡ pos 0
   pub moved-on : (w : Widths) (e e′ : Env) (gs : List Glyph) (xs : List Item) (n : ℕ) (bs : List ℕ) → perform e (acts w e (word n bs)) ≡ went e′ gs xs → WordMoved w e n bs e′ gs
