@@ -23,6 +23,7 @@ use Rattle.laws.proofs.Cases.{on}
 use Rattle.laws_motion.proofs.Moved.{numbers-hold, motions-hold, refusal-10}
 use Rattle.laws_motion.proofs.Worded.{advances-hold, words-hold}
 use Rattle.laws_motion.proofs.Runs.{in-every-run, in-every-list}
+use Rattle.laws_motion.proofs.Needed.{reasons-hold, phases-hold}
 use Rattle.laws_motion.proofs.Held.{recorded-holds, entered-holds, settings-hold, ends-hold}
 use Rattle.laws_answers.proofs.Judged.{judged}
 use Rattle.demands.specs.Demands as D
@@ -95,6 +96,8 @@ as-01-gives = record {
   words = words-hold;
   in-every-run = in-every-run;
   in-every-list = in-every-list;
+  reasons = reasons-hold;
+  phases = phases-hold;
   records = recorded-holds;
   entries = entered-holds;
   settings = settings-hold;

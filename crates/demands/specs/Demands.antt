@@ -37,6 +37,7 @@ use Rattle.laws_find.specs.Written.{written, GoodQuery}
 use Rattle.laws_motion.specs.Motions.{NumberTexts, Motions, Refusal10, Advances, Words}
 use Rattle.laws_motion.specs.Records.{Recorded, letters, isSome, Entered, Settings, AnswerHolds}
 use Rattle.laws_motion.specs.Runs.{InEveryRun, InEveryList}
+use Rattle.laws_motion.specs.Needs.{Phases, Reasons}
 use Rattle.laws_offsets.specs.Offsets.{ReadOffset, FindOffset, OrRoom, Said}
 use Rattle.laws_house.specs.Lines.{HouseText}
 use Rattle.laws_needed.specs.Statement.{OnlyWhereItDiffers}
@@ -257,6 +258,10 @@ pub record As01Gives : Type 0 where
   pub words : Words
   pub in-every-run : InEveryRun
   pub in-every-list : InEveryList
+  -- "Each is given exactly for its reason", "at one command the smallest number": refusals 7 to 10 of every command; and how far the
+  -- prologue has come
+  pub reasons : Reasons
+  pub phases : Phases
   -- which commands make a record or an entry, and what these hold; page, font and size; the answer
   pub records : Recorded
   pub entries : Entered

@@ -5,3 +5,4 @@ pub mod Moved
 pub mod Lookup
 pub mod Worded
 pub mod Runs
+pub mod Needed

@@ -217,7 +217,7 @@ draw-v : (e : Env) (s : Shape) (ns : List ℕ) → Arguments s ns → AtV e (dra
 draw-v e s ns h = if-after _ (mayGo (e .spot) (wayOf s ns)) _ 10 (λ f. all-place (wayOf s ns .terms) (e .spot .v) (wayOf s ns .dv) _ (drawing-goes s ns h .1) (may-v e (wayOf s ns) f))
 
 -- an act that stays where it is
-index-stays : (P : Env → List Glyph → List Item → Type 0) (e : Env) (n f : ℕ) → ((g : ℕ) (gs : List Glyph) → P (setGap e g) gs []) → After P (indexed e n f)
+pub index-stays : (P : Env → List Glyph → List Item → Type 0) (e : Env) (n f : ℕ) → ((g : ℕ) (gs : List Glyph) → P (setGap e g) gs []) → After P (indexed e n f)
 index-stays P e n f h = on (ltb n origin) (λ k. rw k (h 1 [])) (λ k. rw k (h 0 _))
 
 effect-h : (e : Env) (a : Act) → AsWritten a → AtH e a (effect e a)

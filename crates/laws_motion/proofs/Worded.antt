@@ -69,7 +69,7 @@ advances-hold = record { nearest = nearest; no-other = no-other }
 -- ---- what a word did, and where its glyphs stand
 
 -- behind a glyph: no gap, and h grown
-abbrev grown : Env → ℕ → Env
+abbrev pub grown : Env → ℕ → Env
 grown d m = setSpot (setGap d 0) (put across (plus (d .spot .h) m) (d .spot))
 
 module _ (fs : List Font) (name : List ℕ) (far : ℕ → ℕ) where
@@ -130,16 +130,16 @@ module _ (fs : List Font) (name : List ℕ) (far : ℕ → ℕ) where
 -- ---- refusal 10 of a word
 
 -- a word may begin: 7 and 8 are not against it
-abbrev Ready : Env → Type 0
+abbrev pub Ready : Env → Type 0
 Ready d = (f : ℕ) × (d .font ≡ some f) × (onPage d ≡ true) × (ltb 0 (d .size) ≡ true)
 
 -- a glyph is set, and h grows behind it unless that is beyond the limit
-run-fits : (d : Env) (b m : ℕ) (ys : List Act) (r : Ready d) → fits (d .spot .h) m ≡ true
+pub run-fits : (d : Env) (b m : ℕ) (ys : List Act) (r : Ready d) → fits (d .spot .h) m ≡ true
     → run d (glyph (b ∷ []) ∷ by across m ∷ ys) ≡ before (glyphOf d (r .0) (b ∷ []) 0 ∷ []) [] (before [] [] (run (grown d m) ys))
 unfolding run act
 run-fits d b m ys r k = rw (r .2, r .1, r .3, r .2, k)
 
-run-not : (d : Env) (b m : ℕ) (ys : List Act) → Ready d → fits (d .spot .h) m ≡ false → run d (glyph (b ∷ []) ∷ by across m ∷ ys) ≡ refused 10
+pub run-not : (d : Env) (b m : ℕ) (ys : List Act) → Ready d → fits (d .spot .h) m ≡ false → run d (glyph (b ∷ []) ∷ by across m ∷ ys) ≡ refused 10
 unfolding run act
 run-not d b m ys r k = rw (r .2, r .1, r .3, r .2, k)
 
@@ -252,7 +252,7 @@ word-refused w e n bs ys q = go (e .font) refl q
         (λ p. on (ltb 0 (e .size)) (λ s. told f k (f, k, p, s) (rw (p, s) at t)) (λ s. no (ap isThese (rw (p, s) at t))))
         (λ p. no (ap isThese (rw p at t)))
 
-abbrev moved-by : Env → ℕ → Env
+abbrev pub moved-by : Env → ℕ → Env
 moved-by e n = setSpot e (put across (plus (e .spot .h) n) (e .spot))
 
 -- two digits: h grows, then the glyph

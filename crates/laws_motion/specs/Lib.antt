@@ -1,3 +1,4 @@
 pub mod Records
 pub mod Motions
 pub mod Runs
+pub mod Needs
