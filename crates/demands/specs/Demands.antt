@@ -247,8 +247,8 @@ EntriesInPlace = (s list : List ℕ) (rs : List Record) (es : List Entry) (r : R
     → ReadCall s list rs es r rs′ es′ → SoundList list w → length gs ≤ length rs → length xs ≤ length es → (a : Allowed s w end gs xs)
     → map stretch (take (length xs) es′) ≡ entryPlaces s (a .commands) (a .consists) 0
 
--- "the name, page, place, font and size 01 gives it": what each command does is what 01 says, in integers (`laws_motion`: Motions.antt and
--- Records.antt have 01's tables once more, apart from the rules that `Allowed` goes by)
+-- "the name, page, place, font and size 01 gives it": what each command does is what 01 says, in integers (`laws_motion`: Motions.antt,
+-- Records.antt and Needs.antt have 01's tables once more, apart from the rules that `Allowed` goes by)
 pub record As01Gives : Type 0 where
   -- numbers; motions and where they are refused; the advance; words and two digits; and that all this holds in every run
   pub numbers : NumberTexts
