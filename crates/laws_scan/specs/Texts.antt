@@ -6,6 +6,8 @@ use mathlib.Core.List.{List, [], _∷_, _++_}
 use mathlib.Core.Path.{_≡_}
 use lib.ListN.{length, take, drop}
 use Rattle.rules.specs.Bytes.{Num, Int, noInt, int, integer}
+use Rattle.rules.specs.Act.{Act, glyph, index, to, by, page, font, size, colour, break, space, draw, device, resolution, init, file, mount, plain, raw, stop, just}
+use Rattle.rules.specs.Scan.{got, command}
 
 -- ---- "An integer is an optional `-` and at least one digit, leading zeros allowed; it ends at the next non-digit."
 
@@ -45,3 +47,39 @@ pub record IntegersAsWritten : Type 0 where
   pub written : (neg : Bool) (mag : ℕ) (t r : List ℕ) → Written neg mag t → NoDigit r → integer (t ++ r) ≡ int (record { neg = neg; mag = mag }) (length t)
   -- "A `+` is no sign."
   pub plus : (r : List ℕ) → integer (43 ∷ r) ≡ noInt
+
+-- ---- "`D` and its letter need a line break, perhaps after a comment, behind the last argument."
+
+-- spaces and tabs (32, 9), and then the end, a newline (10) or a `#` (35)
+pub data LineEnds : List ℕ → Type 0 where
+  at-end : LineEnds []
+  at-newline : (r : List ℕ) → LineEnds (10 ∷ r)
+  at-comment : (r : List ℕ) → LineEnds (35 ∷ r)
+  behind-space : (r : List ℕ) → LineEnds r → LineEnds (32 ∷ r)
+  behind-tab : (r : List ℕ) → LineEnds r → LineEnds (9 ∷ r)
+
+-- every `D`, and of controls: "The line-break rule of `D` holds, except for `X`."
+abbrev pub endsItsLine : Act → Bool
+endsItsLine (glyph n) = false
+endsItsLine (index n) = false
+endsItsLine (to x n) = false
+endsItsLine (by x n) = false
+endsItsLine (page n) = false
+endsItsLine (font n) = false
+endsItsLine (size n) = false
+endsItsLine (colour c ns) = false
+endsItsLine break = false
+endsItsLine space = false
+endsItsLine (draw s ns) = true
+endsItsLine (device n) = true
+endsItsLine (resolution n h v) = true
+endsItsLine init = true
+endsItsLine (file n) = true
+endsItsLine (mount n m) = true
+endsItsLine (plain c ns) = true
+endsItsLine (raw t) = false
+endsItsLine stop = true
+
+-- behind each of them, as it is scanned with its first byte b and r behind that
+abbrev pub LineBreaks : Type 0
+LineBreaks = (b : ℕ) (r : List ℕ) (a : Act) (name len : ℕ) → command b r ≡ got (just a) name len → endsItsLine a ≡ true → LineEnds (drop (len - 1) r)
