@@ -1,4 +1,4 @@
--- Integers are read as they are written, a line break stands behind every `D` and `x` but `x X`, and ignored numbers are within their limit.
+-- Integers are read as they are written, and a line break stands behind every `D` and `x` but `x X`.
 use Prim.Native.Nat.{ℕ, zero, suc, _+_, _*_, _-_, _^_, _≤_, _<_}
 use native.Mathlib.Omega.{arith}
 use native.Mathlib.Nat.{pow-suc}
@@ -60,7 +60,7 @@ all-said t r h k = omega (arith, value-is 0 t r h k)
 
 -- ---- integers
 
-abbrev AsRead : List ℕ → Int → Type 0
+abbrev pub AsRead : List ℕ → Int → Type 0
 AsRead r noInt = Unit {0}
 AsRead r (int n l) = (l ≤ length r) × Written (n .neg) (n .mag) (take l r) × NoDigit (drop l r)
 
@@ -74,7 +74,7 @@ front-says r e =
       says = ap (value 0) (sym (take-append-drop (digits r) r)) ∙ all-said t (drop (digits r) r) h (drop-span isDigit r);
     }
 
-integer-read : (r : List ℕ) → AsRead r (integer r)
+pub integer-read : (r : List ℕ) → AsRead r (integer r)
 unfolding integer
 integer-read [] = tt
 integer-read (b ∷ r) =
@@ -113,7 +113,7 @@ integers-as-written = record {
 
 -- ---- line breaks
 
-or-of : (P : Type 0) (x y : Bool) → (x || y) ≡ true → (x ≡ true → P) → (y ≡ true → P) → P
+pub or-of : (P : Type 0) (x y : Bool) → (x || y) ≡ true → (x ≡ true → P) → (y ≡ true → P) → P
 or-of P true y h f g = f refl
 or-of P false y h f g = g h
 
@@ -237,15 +237,15 @@ letter-closes b r =
 
 -- what was got
 
-abbrev isGot : Scan → Bool
+abbrev pub isGot : Scan → Bool
 isGot (got c a l) = true
 isGot (bad n k) = false
 
-abbrev cmdIn : Cmd → Scan → Cmd
+abbrev pub cmdIn : Cmd → Scan → Cmd
 cmdIn d (got c a l) = c
 cmdIn d (bad n k) = d
 
-abbrev lengthIn : Scan → ℕ
+abbrev pub lengthIn : Scan → ℕ
 lengthIn (got c a l) = l
 lengthIn (bad n k) = 0
 

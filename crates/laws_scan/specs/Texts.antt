@@ -1,12 +1,13 @@
 -- Document 01, "Bytes, spaces, numbers", "Drawing" and "Controls": what stands in the bytes where an integer was read, and behind a `D` or
 -- `x` command, said by the bytes themselves, apart from the rules that scan them. Proofs: `Texts`.
-use Prim.Native.Nat.{ℕ, _+_, _*_, _-_, _^_, _≤_}
+use Prim.Native.Nat.{ℕ, suc, _+_, _*_, _-_, _^_, _≤_}
 use mathlib.Core.Bool.{Bool, true, false}
 use mathlib.Core.List.{List, [], _∷_, _++_}
+use mathlib.Core.Logic.{_⊎_}
 use mathlib.Core.Path.{_≡_}
 use lib.ListN.{length, take, drop}
-use Rattle.rules.specs.Bytes.{Num, Int, noInt, int, integer}
-use Rattle.rules.specs.Act.{Act, glyph, index, to, by, page, font, size, colour, break, space, draw, device, resolution, init, file, mount, plain, raw, stop, just}
+use Rattle.rules.specs.Bytes.{Num, Int, noInt, int, integer, origin}
+use Rattle.rules.specs.Act.{Act, glyph, index, to, by, page, font, size, colour, break, space, draw, device, resolution, init, file, mount, plain, raw, stop, Cmd, just, word}
 use Rattle.rules.specs.Scan.{got, command}
 
 -- ---- "An integer is an optional `-` and at least one digit, leading zeros allowed; it ends at the next non-digit."
@@ -83,3 +84,37 @@ endsItsLine stop = true
 -- behind each of them, as it is scanned with its first byte b and r behind that
 abbrev pub LineBreaks : Type 0
 LineBreaks = (b : ℕ) (r : List ℕ) (a : Act) (name len : ℕ) → command b r ≡ got (just a) name len → endsItsLine a ≡ true → LineEnds (drop (len - 1) r)
+
+-- ---- numbers that are ignored: "Its magnitude is at most 99,999,999" holds for them too
+
+-- "A spacer is any run, perhaps empty, of spaces and tabs."
+abbrev pub Spacer : List ℕ → Type 0
+Spacer [] = Unit {0}
+Spacer (b ∷ t) = ((b ≡ 32) ⊎ (b ≡ 9)) × Spacer t
+
+-- that many integers, each within the limit; "a spacer may precede each"
+pub data Integers : ℕ → List ℕ → Type 0 where
+  no-more : Integers 0 []
+  one-more : (n : ℕ) (neg : Bool) (mag : ℕ) (s w t : List ℕ) → Spacer s → Written neg mag w → mag ≤ 99_999_999 → Integers n t → Integers (suc n) (s ++ (w ++ t))
+
+-- an integer, or nothing
+abbrev pub Dummy : List ℕ → Type 0
+Dummy t = Integers 0 t ⊎ Integers 1 t
+
+-- "must be followed by whitespace or end"
+abbrev pub WhiteOrEnd : List ℕ → Type 0
+WhiteOrEnd [] = Unit {0}
+WhiteOrEnd (b ∷ r) = (b ≡ 32) ⊎ ((b ≡ 9) ⊎ (b ≡ 10))
+
+-- Of what stands behind the letter, up to the command's end. `n`, `t`, `u` and `D` are 110, 116, 117 and 68.
+pub record IgnoredInLimit : Type 0 where
+  -- "`n` b a .. numbers ignored"
+  pub behind-n : (r : List ℕ) (c : Cmd) (name len : ℕ) → command 110 r ≡ got c name len → Integers 2 (take (len - 1) r)
+  -- "After a `t` or `u` word, a spacer and then a digit or `-` is a dummy integer. It is ignored, and must be followed by whitespace or end"
+  pub behind-t : (r : List ℕ) (c : Cmd) (name len : ℕ) → command 116 r ≡ got c name len
+      → (s : List ℕ) × (bs : List ℕ) × (d : List ℕ) × (take (len - 1) r ≡ s ++ (bs ++ d)) × (c ≡ word origin bs) × Spacer s × Dummy d × WhiteOrEnd (drop (len - 1) r)
+  pub behind-u : (r : List ℕ) (c : Cmd) (name len : ℕ) → command 117 r ≡ got c name len
+      → (i : List ℕ) × (s : List ℕ) × (bs : List ℕ) × (d : List ℕ) × (n : ℕ) × (take (len - 1) r ≡ i ++ (s ++ (bs ++ d))) × (c ≡ word n bs) × Integers 1 i × Spacer s × Dummy d × WhiteOrEnd (drop (len - 1) r)
+  -- "`Dc` `DC` | d, optional dummy"; a spacer may stand before the letter x, which is 99 or 67
+  pub behind-Dc : (s : List ℕ) (x : ℕ) (r : List ℕ) (c : Cmd) (name len : ℕ) → Spacer s → (x ≡ 99) ⊎ (x ≡ 67) → command 68 (s ++ (x ∷ r)) ≡ got c name len
+      → (i : List ℕ) × (d : List ℕ) × (take (len - 1) (s ++ (x ∷ r)) ≡ s ++ (x ∷ (i ++ d))) × Integers 1 i × Dummy d
