@@ -159,3 +159,171 @@ break-small r c name len e = go (integers 2 1 r) (integers-at 2 1 r) (counted 2 
         let j : Judged (just break) ns l c len = judged-got (just break) ns js 0 l t c name len f in
         subst (Integers 2) (sym (text-is r (h .text) t len (h .whole) (sym (j .long) ∙ h .long)))
         (subst (λ (k : ℕ). Integers k (h .text)) n (small ns (h .text) (h .says) (j .dummies)))
+
+-- ---- words
+
+joined : (s v x t u r : List ℕ) → r ≡ s ++ u → u ≡ v ++ (x ++ t) → r ≡ (s ++ (v ++ x)) ++ t
+joined s v x t u r a b = a ∙ ap (λ (y : List ℕ). s ++ y) (b ∙ sym (append-assoc v x t)) ∙ sym (append-assoc s (v ++ x) t)
+
+long-joined : (s v x : List ℕ) → length (s ++ (v ++ x)) ≡ length s + (length v + length x)
+long-joined s v x = length-append s (v ++ x) ∙ ap (λ (n : ℕ). length s + n) (length-append v x)
+
+white-of : (t : List ℕ) → whiteNext t ≡ true → WhiteOrEnd t
+white-of [] h = tt
+white-of (b ∷ t) h =
+    or-of (WhiteOrEnd (b ∷ t)) (isSpace b) (is "\n" b) h
+    (λ e. or-of (WhiteOrEnd (b ∷ t)) (is " " b) (is "\t" b) e (λ f. inl (eqb-true b 32 f)) (λ f. inr (inl (eqb-true b 9 f))))
+    (λ e. inr (inr (eqb-true b 10 e)))
+
+-- a spacer, a word, perhaps a dummy, and what stands behind; r stands k bytes behind the command's first
+record Worded (f : List ℕ → Cmd) (k : ℕ) (r : List ℕ) (c : Cmd) (len : ℕ) : Type 0 where
+  gap : List ℕ
+  bytes : List ℕ
+  more : List ℕ
+  rest : List ℕ
+  whole : r ≡ (gap ++ (bytes ++ more)) ++ rest
+  long : len ≡ k + length (gap ++ (bytes ++ more))
+  same : c ≡ f bytes
+  spaced : Spacer gap
+  few : Dummy more
+  white : WhiteOrEnd rest
+  args : allTrue (cmdLimits (f bytes)) ≡ true
+
+worded : (f : List ℕ → Cmd) (ks : List ℕ) (k : ℕ) (r : List ℕ) (c : Cmd) (name len : ℕ) → judged (withDummy (named f ks k r)) ≡ got c name len → Worded f k r c len
+unfolding named
+worded f ks k r c name len e =
+    let u : List ℕ = unspaced r in
+    let n : ℕ = string u in
+    let p : NumsAt (k + spacer r + n) (drop n u) (perhapsInteger (k + spacer r + n) (drop n u)) × NumsAre (λ ns. length ns ≤ 1) (perhapsInteger (k + spacer r + n) (drop n u)) = perhaps-at (k + spacer r + n) (drop n u) in
+    on (eqb n 0) (λ z. no (ap isGot (rw z at e))) (λ z. go (perhapsInteger (k + spacer r + n) (drop n u)) (p .0) (p .1) (rw z at e))
+  where
+    go : (x : Nums) → NumsAt (k + spacer r + string (unspaced r)) (drop (string (unspaced r)) (unspaced r)) x → NumsAre (λ ns. length ns ≤ 1) x
+        → judged (ignoring (draft (f (take (string (unspaced r)) (unspaced r))) [] (ks ++ (k + spacer r) ∷ []) (k + spacer r) (k + spacer r + string (unspaced r)) (drop (string (unspaced r)) (unspaced r))) (followedByWhite x)) ≡ got c name len
+        → Worded f k r c len
+    go short h few e = no (ap isGot e)
+    go (nums ns js m v) h few e =
+        on (whiteNext v)
+        (λ w.
+        let s : List ℕ = take (spacer r) r in
+        let u : List ℕ = unspaced r in
+        let bs : List ℕ = take (string u) u in
+        let j : Judged (f bs) ns m c len = judged-got (f bs) ns ((ks ++ (k + spacer r) ∷ []) ++ js) (k + spacer r) m v c name len (rw w at e) in
+        record {
+          gap = s;
+          bytes = bs;
+          more = h .text;
+          rest = v;
+          whole = joined s bs (h .text) v u r (sym (take-append-drop (spacer r) r)) (sym (take-append-drop (string u) u) ∙ ap (λ (y : List ℕ). bs ++ y) (h .whole));
+          long = omega (arith, j .long, h .long, long-joined s bs (h .text), length-span isSpace r, length-span isNotWhite u);
+          same = sym (j .same);
+          spaced = spacer-of s (all-span isSpace r);
+          few = dummy ns (h .text) few (h .says) (j .dummies);
+          white = white-of v w;
+          args = j .args;
+        })
+        (λ w. no (ap isGot (rw w at e)))
+
+word-small : (r : List ℕ) (c : Cmd) (name len : ℕ) → command 116 r ≡ got c name len
+    → (s : List ℕ) × (bs : List ℕ) × (d : List ℕ) × (take (len - 1) r ≡ s ++ (bs ++ d)) × (c ≡ word origin bs) × Spacer s × Dummy d × WhiteOrEnd (drop (len - 1) r)
+unfolding letter
+word-small r c name len e =
+    let y : Worded (word origin) 1 r c len = worded (word origin) (1 ∷ []) 1 r c name len e in
+    let t : List ℕ = y .gap ++ (y .bytes ++ y .more) in
+    (y .gap, y .bytes, y .more, text-is r t (y .rest) len (y .whole) (y .long), y .same, y .spaced, y .few, subst WhiteOrEnd (sym (rest-is r t (y .rest) len (y .whole) (y .long))) (y .white))
+
+spaced-word-small : (r : List ℕ) (c : Cmd) (name len : ℕ) → command 117 r ≡ got c name len
+    → (i : List ℕ) × (s : List ℕ) × (bs : List ℕ) × (d : List ℕ) × (n : ℕ) × (take (len - 1) r ≡ i ++ (s ++ (bs ++ d))) × (c ≡ word n bs) × Integers 1 i × Spacer s × Dummy d × WhiteOrEnd (drop (len - 1) r)
+unfolding letter
+spaced-word-small r c name len e = go (integers 1 1 r) (integers-at 1 1 r) (counted 1 1 r) e
+  where
+    go : (x : Nums) → NumsAt 1 r x → NumsAre (λ ns. length ns ≡ 1) x → judged (withDummy (numberNamed word x)) ≡ got c name len
+        → (i : List ℕ) × (s : List ℕ) × (bs : List ℕ) × (d : List ℕ) × (n : ℕ) × (take (len - 1) r ≡ i ++ (s ++ (bs ++ d))) × (c ≡ word n bs) × Integers 1 i × Spacer s × Dummy d × WhiteOrEnd (drop (len - 1) r)
+    go short h k e = no (ap isGot e)
+    go (nums [] ks l t) h k e = no (ap isGot e)
+    go (nums (n ∷ m ∷ ns) ks l t) h k e = absurd (omega (arith, k))
+    go (nums (n ∷ []) ks l t) h k e =
+        let y : Worded (word (moved n)) l t c len = worded (word (moved n)) ks l t c name len e in
+        let i : List ℕ = h .text in
+        let x : List ℕ = y .gap ++ (y .bytes ++ y .more) in
+        let whole : r ≡ (i ++ x) ++ y .rest = h .whole ∙ ap (λ (z : List ℕ). i ++ z) (y .whole) ∙ sym (append-assoc i x (y .rest)) in
+        let long : len ≡ 1 + length (i ++ x) = omega (arith, y .long, h .long, length-append i x) in
+        let near-n : near (moved n) ≡ true = and-left (near (moved n)) true (y .args) in
+        (i, y .gap, y .bytes, y .more, moved n, text-is r (i ++ x) (y .rest) len whole long, y .same, small (n ∷ []) i (h .says) (rw (near-small n near-n)), y .spaced, y .few, subst WhiteOrEnd (sym (rest-is r (i ++ x) (y .rest) len whole long)) (y .white))
+
+-- ---- `Dc`, `DC`
+
+all-small : (ns : List Num) → allTrue (map near (map moved ns)) ≡ true → allTrue (map isSmall ns) ≡ true
+all-small [] h = refl
+all-small (n ∷ ns) h =
+    let more : allTrue (map isSmall ns) ≡ true = all-small ns (and-right (near (moved n)) (allTrue (map near (map moved ns))) h) in
+    rw (near-small n (and-left (near (moved n)) (allTrue (map near (map moved ns))) h)) more
+
+-- an integer, perhaps a dummy, and what stands behind
+record Dummied (k : ℕ) (r : List ℕ) (len : ℕ) : Type 0 where
+  argument : List ℕ
+  more : List ℕ
+  rest : List ℕ
+  whole : r ≡ (argument ++ more) ++ rest
+  long : len ≡ k + length (argument ++ more)
+  one : Integers 1 argument
+  few : Dummy more
+
+module _ (x : Shape) (plainly : (ns : List ℕ) → cmdLimits (just (draw x ns)) ≡ map near ns) (k : ℕ) (r : List ℕ) (c : Cmd) (name len : ℕ) where
+  dummied-small : judged (dummyBehind (withAll (draw x) (integers 1 k r))) ≡ got c name len → Dummied k r len
+  dummied-small e = first (integers 1 k r) (integers-at 1 k r) (counted 1 k r) e
+    where
+      second : (ns : List Num) (ks : List ℕ) (l : ℕ) (t : List ℕ) → Stretch ns k r l t → length ns ≡ 1 → (y : Nums) → NumsAt l t y → NumsAre (λ ms. length ms ≤ 1) y
+          → judged (ignoring (draft (just (draw x (map moved ns))) [] ks 0 l t) y) ≡ got c name len → Dummied k r len
+      second ns ks l t h n short g few e = no (ap isGot e)
+      second ns ks l t h n (nums ms js m v) g few e =
+          let j : Judged (just (draw x (map moved ns))) ms m c len = judged-got (just (draw x (map moved ns))) ms (ks ++ js) 0 m v c name len e in
+          record {
+            argument = h .text;
+            more = g .text;
+            rest = v;
+            whole = h .whole ∙ ap (λ (y : List ℕ). h .text ++ y) (g .whole) ∙ sym (append-assoc (h .text) (g .text) v);
+            long = omega (arith, j .long, h .long, g .long, length-append (h .text) (g .text));
+            one = subst (λ (i : ℕ). Integers i (h .text)) n (small ns (h .text) (h .says) (all-small ns (ap allTrue (sym (plainly (map moved ns))) ∙ j .args)));
+            few = dummy ms (g .text) few (g .says) (j .dummies);
+          }
+
+      first : (y : Nums) → NumsAt k r y → NumsAre (λ ns. length ns ≡ 1) y → judged (dummyBehind (withAll (draw x) y)) ≡ got c name len → Dummied k r len
+      first short h n e = no (ap isGot e)
+      first (nums ns ks l t) h n e = second ns ks l t h n (perhapsInteger l t) (perhaps-at l t .0) (perhaps-at l t .1) e
+
+are-spaces : (s : List ℕ) → Spacer s → All isSpace s
+are-spaces [] h = tt
+are-spaces (b ∷ s) h = (one (h .0), are-spaces s (h .1))
+  where
+    one : (b ≡ 32) ⊎ (b ≡ 9) → isSpace b ≡ true
+    one (inl e) = rw e
+    one (inr e) = rw e
+
+circle-small : (s : List ℕ) (x : ℕ) (r : List ℕ) (c : Cmd) (name len : ℕ) → Spacer s → (x ≡ 99) ⊎ (x ≡ 67) → command 68 (s ++ (x ∷ r)) ≡ got c name len
+    → (i : List ℕ) × (d : List ℕ) × (take (len - 1) (s ++ (x ∷ r)) ≡ s ++ (x ∷ (i ++ d))) × Integers 1 i × Dummy d
+unfolding letter drawing
+circle-small s x r c name len h w e = shaped w (closed-got (drawing (1 + length s) (x ∷ r)) c name len (go (spacer (s ++ (x ∷ r))) far e))
+  where
+    no-space : (x ≡ 99) ⊎ (x ≡ 67) → isSpace x ≡ false
+    no-space (inl q) = rw q
+    no-space (inr q) = rw q
+
+    far : spacer (s ++ (x ∷ r)) ≡ length s
+    far = span-all isSpace s (x ∷ r) (are-spaces s h) (no-space w)
+
+    go : (n : ℕ) → n ≡ length s → judged (closed (drawing (1 + n) (drop n (s ++ (x ∷ r))))) ≡ got c name len → judged (closed (drawing (1 + length s) (x ∷ r))) ≡ got c name len
+    go n q f = ap₂ (λ (i : ℕ) (t : List ℕ). judged (closed (drawing (1 + i) t))) (sym q) (sym (ap (λ (i : ℕ). drop i (s ++ (x ∷ r))) q ∙ drop-front s (x ∷ r))) ∙ f
+
+    found : Dummied (1 + length s + 1) r len → (i : List ℕ) × (d : List ℕ) × (take (len - 1) (s ++ (x ∷ r)) ≡ s ++ (x ∷ (i ++ d))) × Integers 1 i × Dummy d
+    found y =
+        let t : List ℕ = y .argument ++ y .more in
+        let whole : s ++ (x ∷ r) ≡ (s ++ (x ∷ t)) ++ y .rest = ap (λ (z : List ℕ). s ++ (x ∷ z)) (y .whole) ∙ sym (append-assoc s (x ∷ t) (y .rest)) in
+        let long : len ≡ 1 + length (s ++ (x ∷ t)) = omega (arith, y .long, length-append s (x ∷ t)) in
+        (y .argument, y .more, text-is (s ++ (x ∷ r)) (s ++ (x ∷ t)) (y .rest) len whole long, y .one, y .few)
+
+    shaped : (x ≡ 99) ⊎ (x ≡ 67) → judged (drawing (1 + length s) (x ∷ r)) ≡ got c name len → (i : List ℕ) × (d : List ℕ) × (take (len - 1) (s ++ (x ∷ r)) ≡ s ++ (x ∷ (i ++ d))) × Integers 1 i × Dummy d
+    shaped (inl q) f = found (dummied-small circle (λ ns. refl) (1 + length s + 1) r c name len (rw q at f))
+    shaped (inr q) f = found (dummied-small solidCircle (λ ns. refl) (1 + length s + 1) r c name len (rw q at f))
+
+pub ignored-in-limit : IgnoredInLimit
+ignored-in-limit = record { behind-n = break-small; behind-t = word-small; behind-u = spaced-word-small; behind-Dc = circle-small }
