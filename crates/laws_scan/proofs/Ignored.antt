@@ -60,8 +60,8 @@ after-at k r go f = at-int (integer (unspaced r)) (integer-read (unspaced r))
         record {
           text = s ++ (v ++ p .text);
           whole = sym (take-append-drop (spacer r) r)
-            ∙ ap (λ (y : List ℕ). s ++ y) (sym (take-append-drop l u) ∙ ap (λ (y : List ℕ). v ++ y) (p .whole) ∙ sym (append-assoc v (p .text) t))
-            ∙ sym (append-assoc s (v ++ p .text) t);
+              ∙ ap (λ (y : List ℕ). s ++ y) (sym (take-append-drop l u) ∙ ap (λ (y : List ℕ). v ++ y) (p .whole) ∙ sym (append-assoc v (p .text) t))
+              ∙ sym (append-assoc s (v ++ p .text) t);
           long = omega (arith, a, b, p .long, length-span isSpace r, length-take l u, h .0);
           says = (s, v, p .text, refl, spacer-of s (all-span isSpace r), h .1, p .says);
         }
