@@ -20,7 +20,8 @@ use Rattle.rules.specs.Answers.{streamMost, isOver, lengthOf, read, roomFor, re
 use Rattle.rules.specs.Calls.{ReadCall, JudgeCall}
 use Rattle.rules.specs.Rules.{rules}
 use Rattle.laws.proofs.Cases.{on}
-use Rattle.laws_scan.proofs.Texts.{integers-as-written, line-breaks}
+use Rattle.laws_scan.proofs.Written.{integers-as-written}
+use Rattle.laws_scan.proofs.LineBreaks.{line-breaks}
 use Rattle.laws_scan.proofs.Ignored.{ignored-in-limit}
 use Rattle.laws_motion.proofs.Moved.{numbers-hold, motions-hold, refusal-10}
 use Rattle.laws_motion.proofs.Worded.{advances-hold, words-hold}

@@ -1,7 +1,7 @@
 -- Numbers that are ignored are within the limit of all numbers.
-use Prim.Native.Nat.{ℕ, zero, suc, _+_, _*_, _-_, _≤_, _<_}
+use Prim.Native.Nat.{ℕ, zero, suc, _+_, _-_, _≤_}
 use native.Mathlib.Omega.{arith}
-use mathlib.Core.Bool.{Bool, true, false, _&&_, _||_}
+use mathlib.Core.Bool.{Bool, true, false}
 use mathlib.Core.List.{List, [], _∷_, _++_, map, append-assoc}
 use mathlib.Core.Logic.{_⊎_, inl, inr}
 use mathlib.Core.Option.{Option, none, some}
@@ -19,8 +19,8 @@ use Rattle.laws.proofs.Good.{allTrue}
 use Rattle.laws.proofs.Limits.{near-bounds}
 use Rattle.laws_scan.specs.Texts.{Written, Spacer, Integers, no-more, one-more, Dummy, WhiteOrEnd, IgnoredInLimit}
 use Rattle.laws_scan.proofs.Fair.{NumsAre, counted, none-outside, allTrue-left}
-use Rattle.laws_scan.proofs.Bounds.{span-le}
-use Rattle.laws_scan.proofs.Texts.{AsRead, integer-read, or-of, isGot, cmdIn, lengthIn}
+use Rattle.laws_scan.proofs.Written.{AsRead, integer-read}
+use Rattle.laws_scan.proofs.LineBreaks.{or-of, isGot, cmdIn, lengthIn}
 
 -- ---- the text of integers, limits aside
 
