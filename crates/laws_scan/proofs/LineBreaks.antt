@@ -3,6 +3,7 @@ use Prim.Native.Nat.{ℕ, zero, suc, _+_, _-_, _≤_}
 use native.Mathlib.Omega.{arith}
 use mathlib.Core.Bool.{Bool, true, false, _||_}
 use mathlib.Core.List.{List, [], _∷_, _++_, map}
+use mathlib.Core.Logic.{_⊎_, inl, inr}
 use mathlib.Core.Option.{Option, none, some}
 use mathlib.Core.Path.{_≡_, refl, sym, ap, subst, _∙_}
 use lib.Dec.{eqb}
@@ -37,18 +38,40 @@ due (just a) = endsItsLine a
 due (word n bs) = false
 due (pair n b) = false
 
--- where a line break is due it was seen; none is due
+-- where a line break is due it was seen; it was seen; none is due
 abbrev Closes : Draft → Type 0
 Closes (fault n) = Unit {0}
 Closes (draft c ds ks a l t) = due c ≡ true → lineEnds t ≡ true
+
+abbrev Shut : Draft → Type 0
+Shut (fault n) = Unit {0}
+Shut (draft c ds ks a l t) = lineEnds t ≡ true
 
 abbrev Free : Draft → Type 0
 Free (fault n) = Unit {0}
 Free (draft c ds ks a l t) = due c ≡ false
 
-closed-closes : (x : Draft) → Closes (closed x)
-closed-closes (fault n) = tt
-closed-closes (draft c ds ks a l t) = if-on Closes (lineEnds t) (draft c ds ks a l t) (fault 5) (λ e d. e) (λ e. tt)
+-- it was seen, or the command is an `x X`
+abbrev Ends : Draft → Type 0
+Ends (fault n) = Unit {0}
+Ends (draft c ds ks a l t) = (lineEnds t ≡ true) ⊎ ((x : List ℕ) × (c ≡ just (raw x)))
+
+closed-ends : (x : Draft) → Shut (closed x)
+closed-ends (fault n) = tt
+closed-ends (draft c ds ks a l t) = if-on Shut (lineEnds t) (draft c ds ks a l t) (fault 5) (λ e. e) (λ e. tt)
+
+shut-closes : (x : Draft) → Shut x → Closes x
+shut-closes (fault n) h = tt
+shut-closes (draft c ds ks a l t) h = λ d. h
+
+shut-ends : (x : Draft) → Shut x → Ends x
+shut-ends (fault n) h = tt
+shut-ends (draft c ds ks a l t) h = inl h
+
+ends-closes : (x : Draft) → Ends x → Closes x
+ends-closes (fault n) h = tt
+ends-closes (draft c ds ks a l t) (inl e) = λ d. e
+ends-closes (draft c ds ks a l t) (inr q) = λ d. no (sym (ap due (q .1)) ∙ d)
 
 free-closes : (x : Draft) → Free x → Closes x
 free-closes (fault n) h = tt
@@ -97,25 +120,26 @@ coloured-free k (b ∷ r) = go (schemeOf b)
     go none = tt
     go (some c) = all c (integers (components c) (k + 1) r)
 
-control-closes : (b k : ℕ) (r : List ℕ) → Closes (control b k r)
+control-ends : (b k : ℕ) (r : List ℕ) → Ends (control b k r)
 unfolding control
-control-closes b k r =
-    if-both Closes (is "T" b) _ _ (closed-closes (named (λ n. just (device n)) [] k r))
-    (if-both Closes (is "r" b) _ _ (closed-closes (resolutionOf (integers 3 k r)))
-    (if-both Closes (is "i" b) _ _ (closed-closes (alone init k r))
-    (if-both Closes (is "F" b) _ _ (closed-closes (named (λ n. just (file n)) [] k r))
-    (if-both Closes (is "f" b) _ _ (closed-closes (numberNamed (λ n m. just (mount n m)) (integers 1 k r)))
-    (if-both Closes (is "H" b) _ _ (closed-closes (plainly height k r))
-    (if-both Closes (is "S" b) _ _ (closed-closes (plainly slant k r))
-    (if-both Closes (is "p" b) _ _ (closed-closes (plainly pause k r))
-    (if-both Closes (is "t" b) _ _ (closed-closes (plainly trailer k r))
-    (if-both Closes (is "u" b) _ _ (closed-closes (plainly underline k r))
-    (if-both Closes (is "s" b) _ _ (closed-closes (alone stop k r))
-    (if-both Closes (is "X" b) _ _ (free-closes (rawly (k + spacer r) (unspaced r)) refl) tt)))))))))))
+control-ends b k r =
+    let seen : (x : Draft) → Ends (closed x) = λ x. shut-ends (closed x) (closed-ends x) in
+    if-both Ends (is "T" b) _ _ (seen (named (λ n. just (device n)) [] k r))
+    (if-both Ends (is "r" b) _ _ (seen (resolutionOf (integers 3 k r)))
+    (if-both Ends (is "i" b) _ _ (seen (alone init k r))
+    (if-both Ends (is "F" b) _ _ (seen (named (λ n. just (file n)) [] k r))
+    (if-both Ends (is "f" b) _ _ (seen (numberNamed (λ n m. just (mount n m)) (integers 1 k r)))
+    (if-both Ends (is "H" b) _ _ (seen (plainly height k r))
+    (if-both Ends (is "S" b) _ _ (seen (plainly slant k r))
+    (if-both Ends (is "p" b) _ _ (seen (plainly pause k r))
+    (if-both Ends (is "t" b) _ _ (seen (plainly trailer k r))
+    (if-both Ends (is "u" b) _ _ (seen (plainly underline k r))
+    (if-both Ends (is "s" b) _ _ (seen (alone stop k r))
+    (if-both Ends (is "X" b) _ _ (inr (rawText (unspaced r), refl)) tt)))))))))))
 
-word-closes : (k : ℕ) (r : List ℕ) → Closes (controlWord k r)
-word-closes k [] = tt
-word-closes k (b ∷ r) = if-both Closes (isWhite b) (fault 3) _ tt (control-closes b (k + 1 + string r) (drop (string r) r))
+word-ends : (k : ℕ) (r : List ℕ) → Ends (controlWord k r)
+word-ends k [] = tt
+word-ends k (b ∷ r) = if-both Ends (isWhite b) (fault 3) _ tt (control-ends b (k + 1 + string r) (drop (string r) r))
 
 letter-closes : (b : ℕ) (r : List ℕ) → Closes (letter b r)
 unfolding letter
@@ -136,8 +160,8 @@ letter-closes b r =
     (if-both Closes (is "m" b) _ _ (free-closes (coloured colour (1 + spacer r) (unspaced r)) (coloured-free (1 + spacer r) (unspaced r)))
     (if-both Closes (is "n" b) _ _ (free-closes (ignoring (draft (just break) [] [] 0 1 r) (integers 2 1 r)) (ignoring-free (draft (just break) [] [] 0 1 r) (integers 2 1 r) refl))
     (if-both Closes (is "w" b) _ _ (λ d. no d)
-    (if-both Closes (is "D" b) _ _ (closed-closes (drawing (1 + spacer r) (unspaced r)))
-    (if-both Closes (is "x" b) _ _ (word-closes (1 + spacer r) (unspaced r))
+    (if-both Closes (is "D" b) _ _ (shut-closes (closed (drawing (1 + spacer r) (unspaced r))) (closed-ends (drawing (1 + spacer r) (unspaced r))))
+    (if-both Closes (is "x" b) _ _ (ends-closes (controlWord (1 + spacer r) (unspaced r)) (word-ends (1 + spacer r) (unspaced r)))
     (if-both Closes (isDigit b) _ _ (free-closes (secondDigit b (1 + spacer r) (unspaced r)) (digit-free b (1 + spacer r) (unspaced r))) tt)))))))))))))))))
 
 -- what was got
@@ -158,16 +182,48 @@ behind-first : (b : ℕ) (r : List ℕ) (l : ℕ) → 1 ≤ l → drop l (b ∷ 
 behind-first b r zero h = absurd (omega arith)
 behind-first b r (suc l) h = let e : l ≡ suc l - 1 = omega arith in ap (λ (n : ℕ). drop n r) e
 
-pub line-breaks : LineBreaks
-line-breaks b r a name len = go (letter b r) (letter-in b r) (letter-closes b r)
-  where
-    at : (c : Cmd) (ds : List Num) (ks : List ℕ) (i l : ℕ) (t : List ℕ) (o : Option ℕ) → DraftIn (b ∷ r) (draft c ds ks i l t) → Closes (draft c ds ks i l t) → judgedBy c i l o ≡ got (just a) name len → endsItsLine a ≡ true → LineEnds (drop (len - 1) r)
-    at c ds ks i l t (some k) h g e d = no (ap isGot e)
-    at c ds ks i l t none h g e d =
-        let seen : lineEnds t ≡ true = g (ap (λ (x : Scan). due (cmdIn c x)) e ∙ d) in
-        let here : t ≡ drop (len - 1) r = h .end .rest ∙ behind-first b r l (h .end .some) ∙ ap (λ (x : Scan). drop (lengthIn x - 1) r) e in
-        subst LineEnds here (ends-of t seen)
+-- what was put together, of what was got
+record Drafted (b : ℕ) (r : List ℕ) (P : Draft → Type 0) (c : Cmd) (len : ℕ) : Type 0 where
+  ignored : List Num
+  places : List ℕ
+  name : ℕ
+  long : ℕ
+  rest : List ℕ
+  here : rest ≡ drop (len - 1) r
+  holds : P (draft c ignored places name long rest)
 
-    go : (x : Draft) → DraftIn (b ∷ r) x → Closes x → judged x ≡ got (just a) name len → endsItsLine a ≡ true → LineEnds (drop (len - 1) r)
-    go (fault n) h g e d = no (ap isGot e)
-    go (draft c ds ks i l t) h g e d = at c ds ks i l t (outside (cmdLimits c ++ map isSmall ds) ks) h g e d
+drafted : (b : ℕ) (r : List ℕ) (P : Draft → Type 0) (x : Draft) (c : Cmd) (name len : ℕ) → DraftIn (b ∷ r) x → P x → judged x ≡ got c name len → Drafted b r P c len
+drafted b r P (fault n) c name len h p e = no (ap isGot e)
+drafted b r P (draft d ds ks i l t) c name len h p e = go (outside (cmdLimits d ++ map isSmall ds) ks) e
+  where
+    go : (o : Option ℕ) → judgedBy d i l o ≡ got c name len → Drafted b r P c len
+    go (some k) f = no (ap isGot f)
+    go none f =
+        record {
+          ignored = ds;
+          places = ks;
+          name = i;
+          long = l;
+          rest = t;
+          here = h .end .rest ∙ behind-first b r l (h .end .some) ∙ ap (λ (x : Scan). drop (lengthIn x - 1) r) f;
+          holds = subst (λ (q : Cmd). P (draft q ds ks i l t)) (ap (cmdIn d) f) p;
+        }
+
+pub line-breaks : LineBreaks
+unfolding letter
+line-breaks = record {
+  behind-D = λ r c name len e.
+      let y : Drafted 68 r Shut c len = drafted 68 r Shut (letter 68 r) c name len (letter-in 68 r) (closed-ends (drawing (1 + spacer r) (unspaced r))) e in
+      subst LineEnds (y .here) (ends-of (y .rest) (y .holds));
+  behind-x = λ r c name len e. by-x r c len (drafted 120 r Ends (letter 120 r) c name len (letter-in 120 r) (word-ends (1 + spacer r) (unspaced r)) e);
+  behind = λ b r a name len e d.
+      let y : Drafted b r Closes (just a) len = drafted b r Closes (letter b r) (just a) name len (letter-in b r) (letter-closes b r) e in
+      subst LineEnds (y .here) (ends-of (y .rest) (y .holds d));
+}
+  where
+    by-x : (r : List ℕ) (c : Cmd) (len : ℕ) → Drafted 120 r Ends c len → LineEnds (drop (len - 1) r) ⊎ ((t : List ℕ) × (c ≡ just (raw t)))
+    by-x r c len y = go (y .holds)
+      where
+        go : (lineEnds (y .rest) ≡ true) ⊎ ((t : List ℕ) × (c ≡ just (raw t))) → LineEnds (drop (len - 1) r) ⊎ ((t : List ℕ) × (c ≡ just (raw t)))
+        go (inl h) = inl (subst LineEnds (y .here) (ends-of (y .rest) h))
+        go (inr h) = inr h

@@ -81,9 +81,11 @@ endsItsLine (plain c ns) = true
 endsItsLine (raw t) = false
 endsItsLine stop = true
 
--- behind each of them, as it is scanned with its first byte b and r behind that
-abbrev pub LineBreaks : Type 0
-LineBreaks = (b : ℕ) (r : List ℕ) (a : Act) (name len : ℕ) → command b r ≡ got (just a) name len → endsItsLine a ≡ true → LineEnds (drop (len - 1) r)
+-- Of a command as it is scanned, c or a, with r behind its first byte; `D` is 68, `x` is 120.
+pub record LineBreaks : Type 0 where
+  pub behind-D : (r : List ℕ) (c : Cmd) (name len : ℕ) → command 68 r ≡ got c name len → LineEnds (drop (len - 1) r)
+  pub behind-x : (r : List ℕ) (c : Cmd) (name len : ℕ) → command 120 r ≡ got c name len → LineEnds (drop (len - 1) r) ⊎ ((t : List ℕ) × (c ≡ just (raw t)))
+  pub behind : (b : ℕ) (r : List ℕ) (a : Act) (name len : ℕ) → command b r ≡ got (just a) name len → endsItsLine a ≡ true → LineEnds (drop (len - 1) r)
 
 -- ---- numbers that are ignored: "Its magnitude is at most 99,999,999" holds for them too
 
