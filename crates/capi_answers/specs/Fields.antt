@@ -4,7 +4,6 @@ use mathlib.Core.Path.{_≡_}
 use lib.IntN.{ℤ, pos}
 use Rattle.rules.specs.declared.Colour.{Colour}
 use Rattle.rules.specs.declared.ReadAnswer.the-variants as R
-use Rattle.rules.specs.declared.Reading.{Reading}
 use Rattle.rules.specs.declared.Finding.the-variants as F
 use Rattle.rules.specs.declared.Respelling.the-variants as S
 use Rattle.rules.specs.declared.Judging.the-variants as J

@@ -6,14 +6,14 @@ use mathlib.Core.List.{List, [], _∷_, _++_, map, append-assoc}
 use mathlib.Core.Logic.{_⊎_, inl, inr}
 use mathlib.Core.Option.{Option, none, some}
 use mathlib.Core.Path.{_≡_, refl, sym, ap, ap₂, subst, _∙_}
-use lib.Dec.{leb, eqb}
+use lib.Dec.{eqb}
 use lib.ListN.{length, take, drop, take-append-drop, length-append, length-take}
 use borrow.Author.Tests.{leb-true, le-leb, eqb-true}
-use Rattle.rules.specs.Bytes.{is, isSpace, isWhite, isNotWhite, spacer, unspaced, string, Num, Int, noInt, int, integer, most, origin, moved, near, Nums, short, nums, withNum, afterInt, integers, isPresent, perhapsInteger}
+use Rattle.rules.specs.Bytes.{is, isSpace, isNotWhite, spacer, unspaced, string, Num, Int, noInt, int, integer, most, origin, moved, near, Nums, short, nums, withNum, afterInt, integers, isPresent, perhapsInteger}
 use Rattle.rules.specs.Act.{Shape, circle, solidCircle, break, draw, Cmd, just, word}
 use Rattle.rules.specs.Letters.{Draft, fault, draft, withAll, ignoring, named, numberNamed, whiteNext, followedByWhite, withDummy}
 use Rattle.rules.specs.Drawing.{lineEnds, closed, dummyBehind, drawing}
-use Rattle.rules.specs.Scan.{letter, cmdLimits, isSmall, outside, judgedBy, judged, Scan, got, bad, command}
+use Rattle.rules.specs.Scan.{letter, cmdLimits, isSmall, outside, judgedBy, judged, got, command}
 use Rattle.laws.proofs.Cases.{on, no, if-both, and-left, and-right, All, span-all, all-span, length-span, take-front, drop-front}
 use Rattle.laws.proofs.Good.{allTrue}
 use Rattle.laws.proofs.Limits.{near-bounds}

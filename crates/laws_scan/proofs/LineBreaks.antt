@@ -10,11 +10,11 @@ use lib.Dec.{eqb}
 use lib.ListN.{take, drop}
 use borrow.Author.Tests.{eqb-true}
 use Rattle.rules.specs.Bytes.{is, isSpace, isWhite, isDigit, spacer, unspaced, string, Num, origin, moved, Nums, short, nums, integers, perhapsInteger}
-use Rattle.rules.specs.Act.{across, down, Scheme, height, slant, pause, trailer, underline, Act, glyph, index, to, by, page, font, size, colour, break, space, device, init, file, mount, raw, stop, Cmd, just, word, pair}
+use Rattle.rules.specs.Act.{across, down, Scheme, height, slant, pause, trailer, underline, Act, glyph, index, to, by, page, font, size, colour, break, device, init, file, mount, raw, stop, Cmd, just, word, pair}
 use Rattle.rules.specs.Letters.{Draft, fault, draft, withOne, withAll, ignoring, oneByte, named, numberNamed, followedByWhite, withDummy, secondDigit, schemeOf, components, inScheme, coloured}
 use Rattle.rules.specs.Drawing.{lineEnds, closed, drawing}
-use Rattle.rules.specs.Controls.{alone, resolutionOf, plainly, rawText, rawLength, rawly, control, controlWord}
-use Rattle.rules.specs.Scan.{letter, cmdLimits, isSmall, outside, judgedBy, judged, command, Scan, got, bad}
+use Rattle.rules.specs.Controls.{alone, resolutionOf, plainly, rawText, control, controlWord}
+use Rattle.rules.specs.Scan.{letter, cmdLimits, isSmall, outside, judgedBy, judged, Scan, got, bad}
 use Rattle.laws.proofs.Cases.{on, no, if-both, if-on}
 use Rattle.laws_scan.specs.Texts.{LineEnds, at-end, at-newline, at-comment, behind-space, behind-tab, endsItsLine, LineBreaks}
 use Rattle.laws_scan.proofs.Bounds.{DraftIn, letter-in}

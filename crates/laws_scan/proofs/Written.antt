@@ -1,5 +1,5 @@
 -- Integers are read as they are written. (It stands on no other proof about scanning.)
-use Prim.Native.Nat.{ℕ, zero, suc, _+_, _*_, _-_, _^_, _≤_, _<_}
+use Prim.Native.Nat.{ℕ, suc, _+_, _*_, _-_, _^_, _≤_}
 use native.Mathlib.Omega.{arith}
 use native.Mathlib.Nat.{pow-suc}
 use mathlib.Core.Bool.{Bool, true, false}
@@ -8,7 +8,7 @@ use mathlib.Core.Path.{_≡_, refl, sym, ap, subst, _∙_}
 use lib.Dec.{leb, eqb}
 use lib.ListN.{length, take, drop, take-append-drop, length-take}
 use borrow.Author.Tests.{leb-true, le-leb, eqb-true, ne-eqb}
-use Rattle.rules.specs.Bytes.{is, span, isDigit, digits, value, Num, Int, noInt, int, signed, integer}
+use Rattle.rules.specs.Bytes.{is, span, isDigit, digits, value, Int, noInt, int, signed, integer}
 use Rattle.laws.proofs.Cases.{on, no, if-on, and-left, and-right, not-zero, All, Stops, span-all, all-span, length-span, drop-span}
 use Rattle.laws_scan.specs.Texts.{Digit, AllDigits, worth, Digits, Written, NoDigit, IntegersAsWritten}
 
@@ -99,10 +99,9 @@ written-read true mag (b ∷ t) r h g = rw (h .0) (said true 1 mag t r (h .1) g 
 written-read false mag [] r h g = absurd (omega (arith, h .some))
 written-read false mag (b ∷ t) r h g = rw (ne-eqb b 45 (λ z. absurd (omega (arith, h .each .0 .0, z)))) (said false 0 mag (b ∷ t) r h g ∙ ap (int (record { neg = false; mag = mag })) (omega arith))
 
-pub integers-as-written : IntegersAsWritten
+plus-is-no-sign : (r : List ℕ) → integer (43 ∷ r) ≡ noInt
 unfolding integer span
-integers-as-written = record {
-  read = λ r n l e. subst (AsRead r) e (integer-read r);
-  written = written-read;
-  plus = λ r. refl;
-}
+plus-is-no-sign r = refl
+
+pub integers-as-written : IntegersAsWritten
+integers-as-written = record { read = λ r n l e. subst (AsRead r) e (integer-read r); written = written-read; plus = plus-is-no-sign }

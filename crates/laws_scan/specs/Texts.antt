@@ -6,7 +6,7 @@ use mathlib.Core.List.{List, [], _∷_, _++_}
 use mathlib.Core.Logic.{_⊎_}
 use mathlib.Core.Path.{_≡_}
 use lib.ListN.{length, take, drop}
-use Rattle.rules.specs.Bytes.{Num, Int, noInt, int, integer, origin}
+use Rattle.rules.specs.Bytes.{Num, noInt, int, integer, origin}
 use Rattle.rules.specs.Act.{Act, glyph, index, to, by, page, font, size, colour, break, space, draw, device, resolution, init, file, mount, plain, raw, stop, Cmd, just, word}
 use Rattle.rules.specs.Scan.{got, command}
 
