@@ -20,7 +20,7 @@ use Rattle.laws.proofs.Limits.{near-bounds}
 use Rattle.laws_scan.specs.Texts.{Written, Spacer, Integers, no-more, one-more, Dummy, WhiteOrEnd, IgnoredInLimit}
 use Rattle.laws_scan.proofs.Fair.{NumsAre, counted, none-outside, allTrue-left}
 use Rattle.laws_scan.proofs.Written.{AsRead, integer-read}
-use Rattle.laws_scan.proofs.LineBreaks.{or-of, isGot, cmdIn, lengthIn}
+use Rattle.laws_scan.proofs.LineBreaks.{or-of, are-spaces, isGot, cmdIn, lengthIn}
 
 -- ---- the text of integers, limits aside
 
@@ -290,14 +290,6 @@ module _ (x : Shape) (plainly : (ns : List ℕ) → cmdLimits (just (draw x ns))
       first : (y : Nums) → NumsAt k r y → NumsAre (λ ns. length ns ≡ 1) y → judged (dummyBehind (withAll (draw x) y)) ≡ got c name len → Dummied k r len
       first short h n e = no (ap isGot e)
       first (nums ns ks l t) h n e = second ns ks l t h n (perhapsInteger l t) (perhaps-at l t .0) (perhaps-at l t .1) e
-
-are-spaces : (s : List ℕ) → Spacer s → All isSpace s
-are-spaces [] h = tt
-are-spaces (b ∷ s) h = (one (h .0), are-spaces s (h .1))
-  where
-    one : (b ≡ 32) ⊎ (b ≡ 9) → isSpace b ≡ true
-    one (inl e) = rw e
-    one (inr e) = rw e
 
 circle-small : (s : List ℕ) (x : ℕ) (r : List ℕ) (c : Cmd) (name len : ℕ) → Spacer s → (x ≡ 99) ⊎ (x ≡ 67) → command 68 (s ++ (x ∷ r)) ≡ got c name len
     → (i : List ℕ) × (d : List ℕ) × (take (len - 1) (s ++ (x ∷ r)) ≡ s ++ (x ∷ (i ++ d))) × Integers 1 i × Dummy d

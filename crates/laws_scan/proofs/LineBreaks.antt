@@ -7,16 +7,16 @@ use mathlib.Core.Logic.{_⊎_, inl, inr}
 use mathlib.Core.Option.{Option, none, some}
 use mathlib.Core.Path.{_≡_, refl, sym, ap, subst, _∙_}
 use lib.Dec.{eqb}
-use lib.ListN.{take, drop}
-use borrow.Author.Tests.{eqb-true}
-use Rattle.rules.specs.Bytes.{is, isSpace, isWhite, isDigit, spacer, unspaced, string, Num, origin, moved, Nums, short, nums, integers, perhapsInteger}
+use lib.ListN.{length, take, drop}
+use borrow.Author.Tests.{eqb-true, ne-eqb}
+use Rattle.rules.specs.Bytes.{is, isSpace, isWhite, isNotWhite, isDigit, spacer, unspaced, string, Num, origin, moved, Nums, short, nums, integers, perhapsInteger}
 use Rattle.rules.specs.Act.{across, down, Scheme, height, slant, pause, trailer, underline, Act, glyph, index, to, by, page, font, size, colour, break, device, init, file, mount, raw, stop, Cmd, just, word, pair}
 use Rattle.rules.specs.Letters.{Draft, fault, draft, withOne, withAll, ignoring, oneByte, named, numberNamed, followedByWhite, withDummy, secondDigit, schemeOf, components, inScheme, coloured}
 use Rattle.rules.specs.Drawing.{lineEnds, closed, drawing}
 use Rattle.rules.specs.Controls.{alone, resolutionOf, plainly, rawText, control, controlWord}
-use Rattle.rules.specs.Scan.{letter, cmdLimits, isSmall, outside, judgedBy, judged, Scan, got, bad}
-use Rattle.laws.proofs.Cases.{on, no, if-both, if-on}
-use Rattle.laws_scan.specs.Texts.{LineEnds, at-end, at-newline, at-comment, behind-space, behind-tab, endsItsLine, LineBreaks}
+use Rattle.rules.specs.Scan.{letter, cmdLimits, isSmall, outside, judgedBy, judged, command, Scan, got, bad}
+use Rattle.laws.proofs.Cases.{on, no, if-both, if-on, All, Stops, span-all, drop-front}
+use Rattle.laws_scan.specs.Texts.{Spacer, NoWhite, WhiteOrEnd, LineEnds, at-end, at-newline, at-comment, behind-space, behind-tab, endsItsLine, LineBreaks}
 use Rattle.laws_scan.proofs.Bounds.{DraftIn, letter-in}
 
 pub or-of : (P : Type 0) (x y : Bool) → (x || y) ≡ true → (x ≡ true → P) → (y ≡ true → P) → P
@@ -209,6 +209,56 @@ drafted b r P (draft d ds ks i l t) c name len h p e = go (outside (cmdLimits d 
           holds = subst (λ (q : Cmd). P (draft q ds ks i l t)) (ap (cmdIn d) f) p;
         }
 
+-- ---- none, though it is due
+
+not-ended : (t : List ℕ) → (LineEnds t → ⊥) → lineEnds t ≡ false
+not-ended t h = on (lineEnds t) (λ e. absurd (h (ends-of t e))) (λ e. e)
+
+missing-drawing : (r : List ℕ) (c : Cmd) (ds : List Num) (ks : List ℕ) (i l : ℕ) (t : List ℕ) → drawing (1 + spacer r) (unspaced r) ≡ draft c ds ks i l t → (LineEnds t → ⊥) → command 68 r ≡ bad 5 0
+unfolding letter
+missing-drawing r c ds ks i l t e h = rw (e, not-ended t h)
+
+pub are-spaces : (s : List ℕ) → Spacer s → All isSpace s
+are-spaces [] h = tt
+are-spaces (b ∷ s) h = (one (h .0), are-spaces s (h .1))
+  where
+    one : (b ≡ 32) ⊎ (b ≡ 9) → isSpace b ≡ true
+    one (inl e) = rw e
+    one (inr e) = rw e
+
+are-not-white : (w : List ℕ) → NoWhite w → All isNotWhite w
+are-not-white [] h = tt
+are-not-white (b ∷ w) h = (rw (ne-eqb b 32 (h .0), ne-eqb b 9 (h .1), ne-eqb b 10 (h .2)), are-not-white w (h .3))
+
+white-stops : (t : List ℕ) → WhiteOrEnd t → Stops isNotWhite t
+white-stops [] h = tt
+white-stops (b ∷ t) (inl e) = rw e
+white-stops (b ∷ t) (inr (inl e)) = rw e
+white-stops (b ∷ t) (inr (inr e)) = rw e
+
+abbrev Bare : ℕ → Type 0
+Bare b = (b ≡ 105) ⊎ ((b ≡ 112) ⊎ ((b ≡ 115) ⊎ (b ≡ 116)))
+
+bare-seen : (b : ℕ) → Bare b → (isSpace b ≡ false) × (isWhite b ≡ false)
+bare-seen b (inl e) = (rw e, rw e)
+bare-seen b (inr (inl e)) = (rw e, rw e)
+bare-seen b (inr (inr (inl e))) = (rw e, rw e)
+bare-seen b (inr (inr (inr e))) = (rw e, rw e)
+
+bare-closed : (b k : ℕ) (t : List ℕ) → Bare b → lineEnds t ≡ false → control b k t ≡ fault 5
+unfolding control integers
+bare-closed b k t (inl e) h = rw (e, h)
+bare-closed b k t (inr (inl e)) h = rw (e, h)
+bare-closed b k t (inr (inr (inl e))) h = rw (e, h)
+bare-closed b k t (inr (inr (inr e))) h = rw (e, h)
+
+missing-control : (s : List ℕ) (b : ℕ) (w t : List ℕ) → Spacer s → Bare b → NoWhite w → WhiteOrEnd t → (LineEnds t → ⊥) → command 120 (s ++ (b ∷ (w ++ t))) ≡ bad 5 0
+unfolding letter
+missing-control s b w t h g n m e =
+    let far : spacer (s ++ (b ∷ (w ++ t))) ≡ length s = span-all isSpace s (b ∷ (w ++ t)) (are-spaces s h) (bare-seen b g .0) in
+    let long : string (w ++ t) ≡ length w = span-all isNotWhite w t (are-not-white w n) (white-stops t m) in
+    rw (far, drop-front s (b ∷ (w ++ t)), bare-seen b g .1, long, drop-front w t, bare-closed b (1 + length s + 1 + length w) t g (not-ended t e))
+
 pub line-breaks : LineBreaks
 unfolding letter
 line-breaks = record {
@@ -219,6 +269,8 @@ line-breaks = record {
   behind = λ b r a name len e d.
       let y : Drafted b r Closes (just a) len = drafted b r Closes (letter b r) (just a) name len (letter-in b r) (letter-closes b r) e in
       subst LineEnds (y .here) (ends-of (y .rest) (y .holds d));
+  missing-D = missing-drawing;
+  missing-x = missing-control;
 }
   where
     by-x : (r : List ℕ) (c : Cmd) (len : ℕ) → Drafted 120 r Ends c len → LineEnds (drop (len - 1) r) ⊎ ((t : List ℕ) × (c ≡ just (raw t)))

@@ -6,9 +6,28 @@ use mathlib.Core.List.{List, [], _∷_, _++_}
 use mathlib.Core.Logic.{_⊎_}
 use mathlib.Core.Path.{_≡_}
 use lib.ListN.{length, take, drop}
-use Rattle.rules.specs.Bytes.{Num, noInt, int, integer, origin}
+use Rattle.rules.specs.Bytes.{Num, noInt, int, integer, spacer, unspaced, origin}
 use Rattle.rules.specs.Act.{Act, glyph, index, to, by, page, font, size, colour, break, space, draw, device, resolution, init, file, mount, plain, raw, stop, Cmd, just, word}
-use Rattle.rules.specs.Scan.{got, command}
+use Rattle.rules.specs.Letters.{draft}
+use Rattle.rules.specs.Drawing.{drawing}
+use Rattle.rules.specs.Scan.{got, bad, command}
+
+-- ---- "Space, tab and newline are whitespace.": 32, 9 and 10
+
+-- "A spacer is any run, perhaps empty, of spaces and tabs."
+abbrev pub Spacer : List ℕ → Type 0
+Spacer [] = Unit {0}
+Spacer (b ∷ t) = ((b ≡ 32) ⊎ (b ≡ 9)) × Spacer t
+
+-- no byte is whitespace
+abbrev pub NoWhite : List ℕ → Type 0
+NoWhite [] = Unit {0}
+NoWhite (b ∷ t) = (b ≡ 32 → ⊥) × (b ≡ 9 → ⊥) × (b ≡ 10 → ⊥) × NoWhite t
+
+-- whitespace or the end follows
+abbrev pub WhiteOrEnd : List ℕ → Type 0
+WhiteOrEnd [] = Unit {0}
+WhiteOrEnd (b ∷ r) = (b ≡ 32) ⊎ ((b ≡ 9) ⊎ (b ≡ 10))
 
 -- ---- "An integer is an optional `-` and at least one digit, leading zeros allowed; it ends at the next non-digit."
 
@@ -86,13 +105,14 @@ pub record LineBreaks : Type 0 where
   pub behind-D : (r : List ℕ) (c : Cmd) (name len : ℕ) → command 68 r ≡ got c name len → LineEnds (drop (len - 1) r)
   pub behind-x : (r : List ℕ) (c : Cmd) (name len : ℕ) → command 120 r ≡ got c name len → LineEnds (drop (len - 1) r) ⊎ ((t : List ℕ) × (c ≡ just (raw t)))
   pub behind : (b : ℕ) (r : List ℕ) (a : Act) (name len : ℕ) → command b r ≡ got (just a) name len → endsItsLine a ≡ true → LineEnds (drop (len - 1) r)
+  -- "other bytes before the line break of `D` or `x`" is 5: of a drawing that is complete, t being behind it, whatever its numbers (so `Df 40000
+  -- x` is 5); and of the controls without arguments, `i`, `p`, `s` and `t` with the rest of a word
+  pub missing-D : (r : List ℕ) (c : Cmd) (ignored : List Num) (places : List ℕ) (name len : ℕ) (t : List ℕ)
+      → drawing (1 + spacer r) (unspaced r) ≡ draft c ignored places name len t → (LineEnds t → ⊥) → command 68 r ≡ bad 5 0
+  pub missing-x : (s : List ℕ) (b : ℕ) (w t : List ℕ) → Spacer s → (b ≡ 105) ⊎ ((b ≡ 112) ⊎ ((b ≡ 115) ⊎ (b ≡ 116))) → NoWhite w → WhiteOrEnd t → (LineEnds t → ⊥)
+      → command 120 (s ++ (b ∷ (w ++ t))) ≡ bad 5 0
 
 -- ---- numbers that are ignored: "Its magnitude is at most 99,999,999" holds for them too
-
--- "A spacer is any run, perhaps empty, of spaces and tabs."
-abbrev pub Spacer : List ℕ → Type 0
-Spacer [] = Unit {0}
-Spacer (b ∷ t) = ((b ≡ 32) ⊎ (b ≡ 9)) × Spacer t
 
 -- that many integers, each within the limit; "a spacer may precede each"
 pub data Integers : ℕ → List ℕ → Type 0 where
@@ -102,11 +122,6 @@ pub data Integers : ℕ → List ℕ → Type 0 where
 -- an integer, or nothing
 abbrev pub Dummy : List ℕ → Type 0
 Dummy t = Integers 0 t ⊎ Integers 1 t
-
--- "must be followed by whitespace or end"
-abbrev pub WhiteOrEnd : List ℕ → Type 0
-WhiteOrEnd [] = Unit {0}
-WhiteOrEnd (b ∷ r) = (b ≡ 32) ⊎ ((b ≡ 9) ⊎ (b ≡ 10))
 
 -- Of what stands behind the letter, up to the command's end. `n`, `t`, `u` and `D` are 110, 116, 117 and 68.
 pub record IgnoredInLimit : Type 0 where
