@@ -103,8 +103,8 @@ near-small : (n : Num) → near (moved n) ≡ true → isSmall n ≡ true
 near-small n h = le-leb (n .mag) most (go (n .neg) (n .mag) h)
   where
     go : (b : Bool) (m : ℕ) → near (moved (record { neg = b; mag = m })) ≡ true → m ≤ most
-    go true m e = let b : (origin - most ≤ origin - m) × (origin - m ≤ origin + most) = near-bounds (origin - m) e in omega (arith, b .0)
-    go false m e = let b : (origin - most ≤ origin + m) × (origin + m ≤ origin + most) = near-bounds (origin + m) e in omega (arith, b .1)
+    go true m e = omega (arith, near-bounds (moved (record { neg = true; mag = m })) e)
+    go false m e = omega (arith, near-bounds (moved (record { neg = false; mag = m })) e)
 
 -- ---- what was got
 
