@@ -1,5 +1,6 @@
 -- Document 01, "Bytes, spaces, numbers", "Drawing" and "Controls": what stands in the bytes where an integer was read, and behind a `D` or
--- `x` command, said by the bytes themselves, apart from the rules that scan them. Proofs: `Written`, `LineBreaks` and `Ignored`.
+-- `x` command, said by the bytes themselves, apart from the rules that scan them (`missing-D` alone names one of these). Proofs: `Written`,
+-- `LineBreaks` and `Ignored`.
 use Prim.Native.Nat.{ℕ, suc, _+_, _*_, _-_, _^_, _≤_}
 use mathlib.Core.Bool.{Bool, true, false}
 use mathlib.Core.List.{List, [], _∷_, _++_}
