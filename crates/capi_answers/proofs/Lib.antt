@@ -1,1 +1,2 @@
 pub mod Flattened
+pub mod Fields

@@ -20,6 +20,9 @@ use Rattle.rules.specs.Answers.{streamMost, isOver, lengthOf, read, roomFor, re
 use Rattle.rules.specs.Calls.{ReadCall, JudgeCall}
 use Rattle.rules.specs.Rules.{rules}
 use Rattle.laws.proofs.Cases.{on}
+use Rattle.laws_scan.proofs.Written.{integers-as-written}
+use Rattle.laws_scan.proofs.LineBreaks.{line-breaks}
+use Rattle.laws_scan.proofs.Ignored.{ignored-in-limit}
 use Rattle.laws_motion.proofs.Moved.{numbers-hold, motions-hold, refusal-10}
 use Rattle.laws_motion.proofs.Worded.{advances-hold, words-hold}
 use Rattle.laws_motion.proofs.Runs.{in-every-run, in-every-list}
@@ -103,6 +106,14 @@ as-01-gives = record {
   settings = settings-hold;
   answer = ends-hold;
 }
+
+pub as-written-01 : D.AsWritten01
+as-written-01 = record { integers = integers-as-written; line-breaks = line-breaks; ignored = ignored-in-limit }
+
+pub refused-colours : D.RefusedColours
+refused-colours s list rs es r rs′ es′ number at c h =
+    let e : r ≡ readingOf (refuse number at) = c .answer ∙ ap readingOf (read-calls.refused-into s list rs es r rs′ es′ c number at h) in
+    (ap (λ (x : Reading). x .glyph) e, ap (λ (x : Reading). x .fill) e)
 
 -- the sample, read by the rules
 abbrev counts : Answer → ℕ × ℕ

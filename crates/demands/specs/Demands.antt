@@ -12,6 +12,7 @@ use lib.IntN.{ℤ}
 use lib.ListN.{length, take, drop}
 use Rattle.rules.specs.declared.Record.{Record}
 use Rattle.rules.specs.declared.Entry.{Entry}
+use Rattle.rules.specs.declared.Colour.{Colour}
 use Rattle.rules.specs.declared.ReadAnswer.{ReadAnswer}
 use Rattle.rules.specs.declared.ReadAnswer.the-variants as R
 use Rattle.rules.specs.declared.Reading.{Reading}
@@ -32,6 +33,7 @@ use Rattle.rules.specs.Calls.{ReadCall, RespellCall, FindCall, JudgeCall}
 use Rattle.laws_read.specs.Outline.{signsOf, outline, keysFrom}
 use Rattle.laws_read.specs.Kept.{allKept}
 use Rattle.laws_read.specs.Spots.{spotsOf}
+use Rattle.laws_scan.specs.Texts.{IntegersAsWritten, LineBreaks, IgnoredInLimit}
 use Rattle.laws_find.specs.Occurs.{OccursAt, Elem, Rising}
 use Rattle.laws_find.specs.Written.{written, GoodQuery}
 use Rattle.laws_motion.specs.Motions.{NumberTexts, Motions, Refusal10, Advances, Words}
@@ -267,6 +269,25 @@ pub record As01Gives : Type 0 where
   pub entries : Entered
   pub settings : Settings
   pub answer : AnswerHolds
+
+-- 01, texts by their bytes, apart from the rules that scan them (`laws_scan`, Texts.antt)
+pub record AsWritten01 : Type 0 where
+  -- "An integer is an optional `-` and at least one digit, leading zeros allowed; it ends at the next non-digit. .. A `+` is no sign." Both
+  -- ways: what is read is so written, and what is so written is read. (`-0`: `NumberTexts`)
+  pub integers : IntegersAsWritten
+  -- "`D` and its letter need a line break, perhaps after a comment, behind the last argument." "The line-break rule of `D` holds, except
+  -- for `X`."
+  pub line-breaks : LineBreaks
+  -- "Its magnitude is at most 99,999,999" binds the numbers of `n` and every dummy too
+  pub ignored : IgnoredInLimit
+
+-- a refusal tells the default scheme, `d`, with four zeros as both colours (house)
+abbrev pub defaultColour : Colour
+defaultColour = record { scheme = 100; parts = 0 ∷ 0 ∷ 0 ∷ 0 ∷ [] }
+
+abbrev pub RefusedColours : Type 0
+RefusedColours = (s list : List ℕ) (rs : List Record) (es : List Entry) (r : Reading) (rs′ : List Record) (es′ : List Entry) (number at : ℕ)
+    → ReadCall s list rs es r rs′ es′ → r .answer ≡ R.Refused number at → (r .glyph ≡ defaultColour) × (r .fill ≡ defaultColour)
 
 -- Something is allowed: 01's sample stream with its list, three glyphs and five controls.
 abbrev pub sampleList : List ℕ
