@@ -28,6 +28,7 @@ use Rattle.laws_answers.proofs.Judged.{judged}
 use Rattle.demands.specs.Demands as D
 use Rattle.demands.specs.Demands.{SoundList, Allowed, houseSpelling}
 use Rattle.demands.proofs.Allowed.{Stream, read-allowed}
+use Rattle.demands.proofs.Framed as frame
 use Rattle.demands.proofs.ReadCalls as read-calls
 use Rattle.demands.proofs.Places as places
 use Rattle.demands.proofs.SpellCalls as spell-calls
@@ -76,6 +77,9 @@ accept-exactly = record {
   where-allowed = λ s list rs es r rs′ es′ w end gs xs c l p q a. read-calls.accepts s list rs es r rs′ es′ c w end gs xs l a p q;
   only-where-allowed = λ s list rs es r rs′ es′ c h. read-calls.only-allowed s list rs es r rs′ es′ c h;
 }
+
+pub framed : D.Framed
+framed = frame.framed
 
 pub record-each : D.RecordEach
 record-each s list rs es r rs′ es′ w end gs xs c l p q a = read-calls.records-each s list rs es r rs′ es′ c w end gs xs l a p q

@@ -21,7 +21,7 @@ use Rattle.rules.specs.declared.Finding.{Finding}
 use Rattle.rules.specs.declared.Finding.the-variants as F
 use Rattle.rules.specs.declared.Judging.the-variants as J
 use Rattle.rules.specs.Bytes.{if_then_else_, bytes, is, isWhite, oneLine, origin}
-use Rattle.rules.specs.Act.{Axis, Act, glyph, to, by, Cmd, just, word, pair}
+use Rattle.rules.specs.Act.{Axis, Act, glyph, to, by, device, resolution, init, stop, Cmd, just, word, pair}
 use Rattle.rules.specs.Scan.{got, command}
 use Rattle.rules.specs.Widths.{Widths, sound, widthList}
 use Rattle.rules.specs.State.{Env, Glyph, Item, went, start, steps, stopped}
@@ -58,7 +58,7 @@ pub data ConsistsOf : List ℕ → List Cmd → Type 0 where
       → command b r ≡ got c name len → ConsistsOf (drop (len - 1) r) cs → ConsistsOf (b ∷ r) (c ∷ cs)
 
 -- "groff_out(5), as 01 fixes it, allows it": at most 16,777,216 bytes of commands, each of which may be performed where it stands, the
--- last of them `x s`; they come to these glyphs, drawings and controls, and end in this environment
+-- last of them `x s` (`Framed`); they come to these glyphs, drawings and controls, and end in this environment
 pub record Allowed (s : List ℕ) (w : Widths) (end : Env) (gs : List Glyph) (xs : List Item) : Type 0 where
   pub short : length s ≤ 16_777_216
   pub commands : List Cmd
@@ -179,6 +179,22 @@ pub record AcceptExactly : Type 0 where
   pub only-where-allowed : (s list : List ℕ) (rs : List Record) (es : List Entry) (r : Reading) (rs′ : List Record) (es′ : List Entry)
       → ReadCall s list rs es r rs′ es′ → IsAccepted (r .answer)
       → (w : Widths) × (end : Env) × (gs : List Glyph) × (xs : List Item) × SoundList list w × Allowed s w end gs xs × (length gs ≤ length rs) × (length xs ≤ length es)
+
+-- 01: "Prologue: `x T`, `x r`, `x i`, in that order, nothing before or between but whitespace and comments. `x s` ends the stream; behind it
+-- only whitespace and comments." The commands of every allowed stream are these, and each of the four stands in no other place.
+pub data Framing : Cmd → Type 0 where
+  x-T : (n : List ℕ) → Framing (just (device n))
+  x-r : (n h v : ℕ) → Framing (just (resolution n h v))
+  x-i : Framing (just init)
+  x-s : Framing (just stop)
+
+abbrev pub NoFraming : List Cmd → Type 0
+NoFraming [] = Unit {0}
+NoFraming (c ∷ cs) = (Framing c → ⊥) × NoFraming cs
+
+abbrev pub Framed : Type 0
+Framed = (s : List ℕ) (w : Widths) (end : Env) (gs : List Glyph) (xs : List Item) (a : Allowed s w end gs xs)
+    → (n : List ℕ) × (i h v : ℕ) × (cs : List Cmd) × (a .commands ≡ just (device n) ∷ just (resolution i h v) ∷ just init ∷ (cs ++ just stop ∷ [])) × NoFraming cs
 
 -- "Each glyph is then recorded once, in order, with the name, page, place, font and size 01 gives it." Each drawing and control is entered
 -- once, in order. Where names stand in the stream is said in `NamesInPlace`; where entries do, and their lengths, in `EntriesInPlace`. The
