@@ -22,8 +22,9 @@ use Rattle.rules.specs.Calls.{ReadCall, FindCall}
 use Rattle.laws.proofs.Cases.{on, no, or-true}
 use Rattle.laws_read.specs.Outline.{Sign, byteSign, signsOf, outline, keysFrom}
 use Rattle.laws_find.specs.Occurs.{OccursAt, Elem, Above, Rising}
-use Rattle.laws_find.specs.Written.{written, GoodQuery}
+use Rattle.laws_find.specs.Written.{White, written, GoodQuery}
 use Rattle.laws_find.proofs.Exact.{hits-rise, hits-occur, occurs-hits}
+use Rattle.laws_find.proofs.Written.{not-white-false}
 use Rattle.laws_answers.specs.Statements.{rowsIn, cmdsOf, Exact}
 use Rattle.laws_answers.specs.Statements as T
 use Rattle.laws_answers.proofs.Theorems.{keysIn, keys-by-outline, exactness, answered, queryText, roomy, byAnyCommand}
@@ -379,8 +380,8 @@ pub otherwise-keys : (s list s₂ list₂ : List ℕ) (gs gs₂ : List Glyph) (a
 otherwise-keys s list s₂ list₂ gs gs₂ a a₂ h =
     outline-keys s list gs a ∙ ap (keysFrom 0 0) (otherwise-outline (a .allowed .commands) (a₂ .allowed .commands) h) ∙ sym (outline-keys s₂ list₂ gs₂ a₂)
 
-pub five-forms : (b : ℕ) (r : List ℕ) → Rattle.rules.specs.Bytes.isWhite b ≡ false → FiveForms b r
-five-forms b r h = let x = byAnyCommand .one-byte b r h in record { by-c = x .by-c; by-C = x .by-C; by-t = x .by-t; by-u = x .by-u; by-digits = x .by-digits }
+pub five-forms : (b : ℕ) (r : List ℕ) → (White b → ⊥) → FiveForms b r
+five-forms b r h = let x = byAnyCommand .one-byte b r (not-white-false b h) in record { by-c = x .by-c; by-C = x .by-C; by-t = x .by-t; by-u = x .by-u; by-digits = x .by-digits }
 
 -- ---- alike
 

@@ -20,7 +20,7 @@ use Rattle.rules.specs.declared.Respelling.the-variants as S
 use Rattle.rules.specs.declared.Finding.{Finding}
 use Rattle.rules.specs.declared.Finding.the-variants as F
 use Rattle.rules.specs.declared.Judging.the-variants as J
-use Rattle.rules.specs.Bytes.{if_then_else_, bytes, is, isWhite, oneLine, origin}
+use Rattle.rules.specs.Bytes.{if_then_else_, bytes, origin}
 use Rattle.rules.specs.Act.{Axis, Act, glyph, to, by, device, resolution, init, stop, Cmd, just, word, pair}
 use Rattle.rules.specs.Scan.{got, command}
 use Rattle.rules.specs.Widths.{Widths, sound, widthList}
@@ -33,7 +33,7 @@ use Rattle.laws_read.specs.Outline.{signsOf, outline, keysFrom}
 use Rattle.laws_read.specs.Kept.{allKept}
 use Rattle.laws_read.specs.Spots.{spotsOf}
 use Rattle.laws_find.specs.Occurs.{OccursAt, Elem, Rising}
-use Rattle.laws_find.specs.Written.{written, GoodQuery}
+use Rattle.laws_find.specs.Written.{White, written, GoodQuery}
 use Rattle.laws_motion.specs.Motions.{NumberTexts, Motions, Refusal10, Advances, Words}
 use Rattle.laws_motion.specs.Records.{Recorded, letters, isSome, Entered, Settings, AnswerHolds}
 use Rattle.laws_motion.specs.Runs.{InEveryRun, InEveryList}
@@ -48,13 +48,27 @@ pub record SoundList (list : List ℕ) (w : Widths) : Type 0 where
   pub short : length list ≤ 65_536
   pub says : widthList list ≡ sound w
 
+-- "Space, tab and newline are whitespace" (`White`: `laws_find`, Written.antt). "A spacer is any run, perhaps empty, of spaces and tabs."
+abbrev pub Spacer : List ℕ → Type 0
+Spacer [] = Unit {0}
+Spacer (b ∷ k) = ((b ≡ 32) ⊎ (b ≡ 9)) × Spacer k
+
+-- "End of input counts as a line break."
+abbrev pub LineBreak : List ℕ → Type 0
+LineBreak [] = Unit {0}
+LineBreak (b ∷ t) = b ≡ 10
+
+abbrev pub NoNewline : List ℕ → Type 0
+NoNewline [] = Unit {0}
+NoNewline (b ∷ k) = (b ≡ 10 → ⊥) × NoNewline k
+
 -- the bytes are these commands, each written as 01 has it and within its limits, with whitespace and comments before, between and
--- behind them
+-- behind them: "`#`, where a command or a line break could stand, starts a comment up to the newline"
 pub data ConsistsOf : List ℕ → List Cmd → Type 0 where
   ended : ConsistsOf [] []
-  white : (b : ℕ) (r : List ℕ) (cs : List Cmd) → isWhite b ≡ true → ConsistsOf r cs → ConsistsOf (b ∷ r) cs
-  comment : (b : ℕ) (r : List ℕ) (cs : List Cmd) → is "#" b ≡ true → ConsistsOf (drop (oneLine r) r) cs → ConsistsOf (b ∷ r) cs
-  one : (b : ℕ) (r : List ℕ) (c : Cmd) (name len : ℕ) (cs : List Cmd) → isWhite b ≡ false → is "#" b ≡ false
+  white : (b : ℕ) (r : List ℕ) (cs : List Cmd) → White b → ConsistsOf r cs → ConsistsOf (b ∷ r) cs
+  comment : (k r : List ℕ) (cs : List Cmd) → NoNewline k → LineBreak r → ConsistsOf r cs → ConsistsOf (35 ∷ (k ++ r)) cs
+  one : (b : ℕ) (r : List ℕ) (c : Cmd) (name len : ℕ) (cs : List Cmd) → (White b → ⊥) → (b ≡ 35 → ⊥)
       → command b r ≡ got c name len → ConsistsOf (drop (len - 1) r) cs → ConsistsOf (b ∷ r) (c ∷ cs)
 
 -- "groff_out(5), as 01 fixes it, allows it": at most 16,777,216 bytes of commands, each of which may be performed where it stands, the
@@ -227,7 +241,7 @@ namesOf c = map (λ (k : Key). k .name) (keysFrom 0 0 (signsOf c))
 unfoldable pub namePlaces : (s : List ℕ) (cs : List Cmd) → ConsistsOf s cs → ℕ → List ℕ
 namePlaces s cs ended at = []
 namePlaces s cs (white b r cs′ h c) at = namePlaces r cs′ c (at + 1)
-namePlaces s cs (comment b r cs′ h c) at = namePlaces (drop (oneLine r) r) cs′ c (at + 1 + oneLine r)
+namePlaces s cs (comment k r cs′ n h c) at = namePlaces r cs′ c (at + 1 + length k)
 namePlaces s cs (one b r d name len cs′ w h e c) at = standFrom (at + name) (namesOf d) ++ namePlaces (drop (len - 1) r) cs′ c (at + len)
 
 abbrev pub NamesInPlace : Type 0
@@ -254,7 +268,7 @@ isEntered (pair n b) = false
 unfoldable pub entryPlaces : (s : List ℕ) (cs : List Cmd) → ConsistsOf s cs → ℕ → List Stretch
 entryPlaces s cs ended at = []
 entryPlaces s cs (white b r cs′ h c) at = entryPlaces r cs′ c (at + 1)
-entryPlaces s cs (comment b r cs′ h c) at = entryPlaces (drop (oneLine r) r) cs′ c (at + 1 + oneLine r)
+entryPlaces s cs (comment k r cs′ n h c) at = entryPlaces r cs′ c (at + 1 + length k)
 entryPlaces s cs (one b r d name len cs′ w h e c) at = (if isEntered d then record { place = at; len = len } ∷ [] else []) ++ entryPlaces (drop (len - 1) r) cs′ c (at + len)
 
 abbrev pub EntriesInPlace : Type 0
@@ -413,7 +427,7 @@ pub record SameList (r r₂ : Finding) (hs′ hs₂′ : List ℕ) : Type 0 wher
   pub list : (n k : ℕ) → r ≡ F.Accepted n k → take k hs′ ≡ take k hs₂′
 
 pub record ByAnyCommand : Type 0 where
-  pub forms : (b : ℕ) (r : List ℕ) → isWhite b ≡ false → FiveForms b r
+  pub forms : (b : ℕ) (r : List ℕ) → (White b → ⊥) → FiveForms b r
   pub no-difference : (s list s₂ list₂ q : List ℕ) (rs rs₂ : List Record) (hs hs₂ : List ℕ) (r r₂ : Finding) (rs′ rs₂′ : List Record) (hs′ hs₂′ : List ℕ) (gs gs₂ : List Glyph) (qs : List Wanted) (is : List ℕ)
       → (a : Accepted s list gs) → (a₂ : Accepted s₂ list₂ gs₂) → SetOtherwise (a .allowed .commands) (a₂ .allowed .commands)
       → FindCall s list q rs hs r rs′ hs′ → FindCall s₂ list₂ q rs₂ hs₂ r₂ rs₂′ hs₂′ → WellFormed q qs → ListOf qs gs is
