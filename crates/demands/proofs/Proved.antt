@@ -28,6 +28,7 @@ use Rattle.laws_answers.proofs.Judged.{judged}
 use Rattle.demands.specs.Demands as D
 use Rattle.demands.specs.Demands.{SoundList, Allowed, houseSpelling}
 use Rattle.demands.proofs.Allowed.{Stream, read-allowed}
+use Rattle.demands.proofs.Forms as forms
 use Rattle.demands.proofs.Framed as frame
 use Rattle.demands.proofs.ReadCalls as read-calls
 use Rattle.demands.proofs.Places as places
@@ -105,6 +106,9 @@ as-01-gives = record {
   answer = ends-hold;
 }
 
+pub number-forms : D.NumberForms
+number-forms = forms.number-forms
+
 -- the sample, read by the rules
 abbrev counts : Answer → ℕ × ℕ
 counts (refuse n at) = (0, 0)
@@ -161,7 +165,7 @@ find-exactly = record {
 
 pub by-any-command : D.ByAnyCommand
 by-any-command = record {
-  forms = find-calls.five-forms;
+  forms = forms.five-forms;
   no-difference = λ s list s₂ list₂ q rs rs₂ hs hs₂ r r₂ rs′ rs₂′ hs′ hs₂′ gs gs₂ qs is a a₂ o c c₂ w l p p₂ k k₂.
       find-calls.same-by-keys s list s₂ list₂ q rs rs₂ hs hs₂ r r₂ rs′ rs₂′ hs′ hs₂′ gs gs₂ qs is a a₂ (find-calls.otherwise-keys s list s₂ list₂ gs gs₂ a a₂ o) c c₂ w l p p₂ k k₂;
 }

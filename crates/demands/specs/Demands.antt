@@ -3,7 +3,7 @@
 --
 -- s is a stream, list a width list, q a query; rs, es and hs are the lent rows of records, entries and record numbers, o is the lent
 -- buffer; r is the answer, and what the rows and the buffer hold afterwards has a prime.
-use Prim.Native.Nat.{ℕ, _+_, _-_, _<_, _≤_}
+use Prim.Native.Nat.{ℕ, _+_, _*_, _-_, _<_, _≤_}
 use mathlib.Core.Bool.{Bool, true, false}
 use mathlib.Core.List.{List, [], _∷_, _++_, map}
 use mathlib.Core.Logic.{_⊎_}
@@ -21,20 +21,20 @@ use Rattle.rules.specs.declared.Finding.{Finding}
 use Rattle.rules.specs.declared.Finding.the-variants as F
 use Rattle.rules.specs.declared.Judging.the-variants as J
 use Rattle.rules.specs.Bytes.{if_then_else_, bytes, origin}
-use Rattle.rules.specs.Act.{Axis, Act, glyph, to, by, device, resolution, init, stop, Cmd, just, word, pair}
+use Rattle.rules.specs.Act.{Axis, across, down, Act, glyph, index, to, by, page, font, size, device, resolution, init, stop, Cmd, just, word, pair}
 use Rattle.rules.specs.Scan.{got, command}
 use Rattle.rules.specs.Widths.{Widths, sound, widthList}
 use Rattle.rules.specs.State.{Env, Glyph, Item, went, start, steps, stopped}
 use Rattle.rules.specs.Record.{shown, lettersOf, colourOf}
-use Rattle.rules.specs.House.{spelling, spellAll}
+use Rattle.rules.specs.House.{signedDecimal, spelling, spellAll}
 use Rattle.rules.specs.Find.{Wanted, Key}
 use Rattle.rules.specs.Calls.{ReadCall, RespellCall, FindCall, JudgeCall}
 use Rattle.laws_read.specs.Outline.{signsOf, outline, keysFrom}
 use Rattle.laws_read.specs.Kept.{allKept}
 use Rattle.laws_read.specs.Spots.{spotsOf}
 use Rattle.laws_find.specs.Occurs.{OccursAt, Elem, Rising}
-use Rattle.laws_find.specs.Written.{White, written, GoodQuery}
-use Rattle.laws_motion.specs.Motions.{NumberTexts, Motions, Refusal10, Advances, Words}
+use Rattle.laws_find.specs.Written.{White, NoWhite, GoodName, written, GoodQuery}
+use Rattle.laws_motion.specs.Motions.{InLimit, NumberTexts, Motions, Refusal10, Advances, Words}
 use Rattle.laws_motion.specs.Records.{Recorded, letters, isSome, Entered, Settings, AnswerHolds}
 use Rattle.laws_motion.specs.Runs.{InEveryRun, InEveryList}
 use Rattle.laws_offsets.specs.Offsets.{ReadOffset, FindOffset, OrRoom, Said}
@@ -293,6 +293,27 @@ pub record As01Gives : Type 0 where
   pub settings : Settings
   pub answer : AnswerHolds
 
+-- How commands of one number are written: "`H` `h` `V` `v` n: h = n, h + n, v = n, v + n", `N` n, `p` n, `f` n and `s` n. Behind the letter
+-- stand a spacer k and the number n (moved up, as all are in the rules) as the house writes it; "it ends at the next non-digit". The
+-- command has no name and is so many bytes long.
+abbrev pub NoDigit : List ℕ → Type 0
+NoDigit [] = Unit {0}
+NoDigit (b ∷ t) = (b < 48) ⊎ (57 < b)
+
+abbrev pub OneNumber : ℕ → (ℕ → Act) → (ℕ → Type 0) → Type 0
+OneNumber letter a Limit = (k : List ℕ) (n : ℕ) (t : List ℕ) → Spacer k → Limit n → NoDigit t
+    → command letter (k ++ (signedDecimal n ++ t)) ≡ got (just (a n)) 0 (1 + length k + length (signedDecimal n))
+
+pub record NumberForms : Type 0 where
+  pub by-H : OneNumber 72 (to across) (λ n. InLimit (shown n))
+  pub by-h : OneNumber 104 (by across) (λ n. InLimit (shown n))
+  pub by-V : OneNumber 86 (to down) (λ n. InLimit (shown n))
+  pub by-v : OneNumber 118 (by down) (λ n. InLimit (shown n))
+  pub by-N : OneNumber 78 index (λ n. InLimit (shown n))
+  pub by-p : OneNumber 112 page (λ n. InLimit (shown n))
+  pub by-f : OneNumber 102 font (λ n. (origin ≤ n) × (n ≤ origin + 255))
+  pub by-s : OneNumber 115 size (λ n. (origin + 1 ≤ n) × (n ≤ origin + 99_999_999))
+
 -- Something is allowed: 01's sample stream with its list, three glyphs and five controls.
 abbrev pub sampleList : List ℕ
 sampleList = bytes "unitwidth=1000\nfont=TR\nbyte=97\nwidth=44\nbyte=98\nwidth=50\n"
@@ -413,13 +434,20 @@ pub data SetOtherwise : List Cmd → List Cmd → Type 0 where
   moved : (c : Cmd) (cs cs₂ : List Cmd) → Motion c → SetOtherwise cs cs₂ → SetOtherwise (c ∷ cs) cs₂
   moved₂ : (c : Cmd) (cs cs₂ : List Cmd) → Motion c → SetOtherwise cs cs₂ → SetOtherwise cs (c ∷ cs₂)
 
--- a byte that is no whitespace, set by each of the five in front of a newline: `cb`, `Cb`, `tb`, `u0 b`, `00b`
-pub record FiveForms (b : ℕ) (r : List ℕ) : Type 0 where
-  pub by-c : command 99 (b ∷ 10 ∷ r) ≡ got (just (glyph (b ∷ []))) 1 2
-  pub by-C : command 67 (b ∷ 10 ∷ r) ≡ got (just (glyph (b ∷ []))) 1 2
-  pub by-t : command 116 (b ∷ 10 ∷ r) ≡ got (word origin (b ∷ [])) 1 2
-  pub by-u : command 117 (48 ∷ 32 ∷ b ∷ 10 ∷ r) ≡ got (word origin (b ∷ [])) 3 4
-  pub by-digits : command 48 (48 ∷ b ∷ 10 ∷ r) ≡ got (pair origin b) 2 3
+-- The five are written so: "`c` g", "`C` name", "`t` word", "`u` n word" and "two digits, glyph byte: .. spacers may stand within". A glyph
+-- byte, and each byte of a name or word, is any but whitespace, `#` too; k and l are spacers, t is a line break and what follows it; the
+-- number of `u` is one as the house writes it, and a spacer parts it from the word. Behind the equation's command stand where its name
+-- begins and its length.
+pub record FiveForms : Type 0 where
+  pub by-c : (k : List ℕ) (b : ℕ) (t : List ℕ) → Spacer k → (White b → ⊥) → command 99 (k ++ b ∷ t) ≡ got (just (glyph (b ∷ []))) (1 + length k) (2 + length k)
+  pub by-C : (k n t : List ℕ) → Spacer k → GoodName n → LineBreak t → command 67 (k ++ (n ++ t)) ≡ got (just (glyph n)) (1 + length k) (1 + length k + length n)
+  pub by-t : (k : List ℕ) (b : ℕ) (bs t : List ℕ) → Spacer k → NoWhite (b ∷ bs) → LineBreak t
+      → command 116 (k ++ (b ∷ bs ++ t)) ≡ got (word origin (b ∷ bs)) (1 + length k) (1 + length k + length (b ∷ bs))
+  pub by-u : (k : List ℕ) (n c : ℕ) (l : List ℕ) (b : ℕ) (bs t : List ℕ) → Spacer k → InLimit (shown n) → Spacer (c ∷ l) → NoWhite (b ∷ bs) → LineBreak t
+      → command 117 (k ++ (signedDecimal n ++ (c ∷ l ++ (b ∷ bs ++ t))))
+      ≡ got (word n (b ∷ bs)) (1 + length k + length (signedDecimal n) + length (c ∷ l)) (1 + length k + length (signedDecimal n) + length (c ∷ l) + length (b ∷ bs))
+  pub by-digits : (d e : ℕ) (k l : List ℕ) (b : ℕ) (t : List ℕ) → d ≤ 9 → e ≤ 9 → Spacer k → Spacer l → (White b → ⊥)
+      → command (48 + d) (k ++ (48 + e) ∷ (l ++ b ∷ t)) ≡ got (pair (origin + (10 * d + e)) b) (2 + length k + length l) (3 + length k + length l)
 
 -- the same answer, and the same list where one is given
 pub record SameList (r r₂ : Finding) (hs′ hs₂′ : List ℕ) : Type 0 where
@@ -427,7 +455,7 @@ pub record SameList (r r₂ : Finding) (hs′ hs₂′ : List ℕ) : Type 0 wher
   pub list : (n k : ℕ) → r ≡ F.Accepted n k → take k hs′ ≡ take k hs₂′
 
 pub record ByAnyCommand : Type 0 where
-  pub forms : (b : ℕ) (r : List ℕ) → (White b → ⊥) → FiveForms b r
+  pub forms : FiveForms
   pub no-difference : (s list s₂ list₂ q : List ℕ) (rs rs₂ : List Record) (hs hs₂ : List ℕ) (r r₂ : Finding) (rs′ rs₂′ : List Record) (hs′ hs₂′ : List ℕ) (gs gs₂ : List Glyph) (qs : List Wanted) (is : List ℕ)
       → (a : Accepted s list gs) → (a₂ : Accepted s₂ list₂ gs₂) → SetOtherwise (a .allowed .commands) (a₂ .allowed .commands)
       → FindCall s list q rs hs r rs′ hs′ → FindCall s₂ list₂ q rs₂ hs₂ r₂ rs₂′ hs₂′ → WellFormed q qs → ListOf qs gs is
