@@ -24,12 +24,12 @@ use Rattle.laws_motion.proofs.Moved.{numbers-hold, motions-hold, refusal-10}
 use Rattle.laws_motion.proofs.Worded.{advances-hold, words-hold}
 use Rattle.laws_motion.proofs.Runs.{in-every-run, in-every-list}
 use Rattle.laws_motion.proofs.Held.{recorded-holds, entered-holds, settings-hold, ends-hold}
+use Rattle.laws_offsets.proofs.Framed as frame
 use Rattle.laws_answers.proofs.Judged.{judged}
 use Rattle.demands.specs.Demands as D
 use Rattle.demands.specs.Demands.{SoundList, Allowed, houseSpelling}
 use Rattle.demands.proofs.Allowed.{Stream, read-allowed}
 use Rattle.demands.proofs.Forms as forms
-use Rattle.demands.proofs.Framed as frame
 use Rattle.demands.proofs.ReadCalls as read-calls
 use Rattle.demands.proofs.Places as places
 use Rattle.demands.proofs.SpellCalls as spell-calls
@@ -80,7 +80,7 @@ accept-exactly = record {
 }
 
 pub framed : D.Framed
-framed = frame.framed
+framed s w end gs xs a = frame.framed w end gs xs (a .commands) (a .performed) (a .ended)
 
 pub record-each : D.RecordEach
 record-each s list rs es r rs′ es′ w end gs xs c l p q a = read-calls.records-each s list rs es r rs′ es′ c w end gs xs l a p q

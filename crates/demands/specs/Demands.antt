@@ -37,6 +37,7 @@ use Rattle.laws_find.specs.Written.{White, NoWhite, GoodName, written, GoodQuer
 use Rattle.laws_motion.specs.Motions.{InLimit, NumberTexts, Motions, Refusal10, Advances, Words}
 use Rattle.laws_motion.specs.Records.{Recorded, letters, isSome, Entered, Settings, AnswerHolds}
 use Rattle.laws_motion.specs.Runs.{InEveryRun, InEveryList}
+use Rattle.laws_offsets.specs.Frame.{NoFraming}
 use Rattle.laws_offsets.specs.Offsets.{ReadOffset, FindOffset, OrRoom, Said}
 use Rattle.laws_house.specs.Lines.{HouseText}
 use Rattle.laws_needed.specs.Statement.{OnlyWhereItDiffers}
@@ -195,17 +196,8 @@ pub record AcceptExactly : Type 0 where
       → (w : Widths) × (end : Env) × (gs : List Glyph) × (xs : List Item) × SoundList list w × Allowed s w end gs xs × (length gs ≤ length rs) × (length xs ≤ length es)
 
 -- 01: "Prologue: `x T`, `x r`, `x i`, in that order, nothing before or between but whitespace and comments. `x s` ends the stream; behind it
--- only whitespace and comments." The commands of every allowed stream are these, and each of the four stands in no other place.
-pub data Framing : Cmd → Type 0 where
-  x-T : (n : List ℕ) → Framing (just (device n))
-  x-r : (n h v : ℕ) → Framing (just (resolution n h v))
-  x-i : Framing (just init)
-  x-s : Framing (just stop)
-
-abbrev pub NoFraming : List Cmd → Type 0
-NoFraming [] = Unit {0}
-NoFraming (c ∷ cs) = (Framing c → ⊥) × NoFraming cs
-
+-- only whitespace and comments." The commands of every allowed stream are these, and none of the four is among cs (`NoFraming`:
+-- `laws_offsets`, Frame.antt).
 abbrev pub Framed : Type 0
 Framed = (s : List ℕ) (w : Widths) (end : Env) (gs : List Glyph) (xs : List Item) (a : Allowed s w end gs xs)
     → (n : List ℕ) × (i h v : ℕ) × (cs : List Cmd) × (a .commands ≡ just (device n) ∷ just (resolution i h v) ∷ just init ∷ (cs ++ just stop ∷ [])) × NoFraming cs

@@ -1,5 +1,5 @@
 -- `x T`, `x r` and `x i` come first, in that order, and `x s` last: each command takes one phase to another.
-use Prim.Native.Nat.{ℕ}
+use Prim.Native.Nat.{ℕ, _-_}
 use native.Mathlib.Omega.{arith}
 use mathlib.Core.Bool.{Bool, true, false, _&&_}
 use mathlib.Core.List.{List, [], _∷_, _++_}
@@ -7,14 +7,14 @@ use mathlib.Core.Option.{Option, none, some}
 use mathlib.Core.Path.{_≡_, refl, sym, ap, _∙_}
 use lib.Dec.{eqb, ltb}
 use borrow.Author.Tests.{eqb-true}
+use Rattle.rules.specs.Bytes.{origin}
 use Rattle.rules.specs.Act.{across, Act, glyph, index, to, by, page, font, size, colour, break, space, draw, device, resolution, init, file, mount, plain, raw, stop, Cmd, just, word, pair}
 use Rattle.rules.specs.Drawing.{wayOf}
 use Rattle.rules.specs.Widths.{Widths, Font, widthOf}
-use Rattle.rules.specs.State.{Env, Glyph, Item, Step, refused, went, before, andThen, onPage, due, get, fits, mayGo, recorded, indexed, mountedAt, isMounted, effect, act, run, start, Acts, noActs, these, ready, byteActs, wordActs, wordIn, acts, perform, steps}
-use Rattle.laws.proofs.Cases.{on, no, if-both, and-left}
+use Rattle.rules.specs.State.{Env, Glyph, Item, Step, refused, went, before, andThen, onPage, due, get, fits, mayGo, recorded, indexed, mountedAt, isMounted, withFont, effect, act, run, start, Acts, noActs, these, ready, byteActs, wordActs, wordIn, acts, perform, steps, stopped}
+use Rattle.laws.proofs.Cases.{on, no, if-both, if-on, and-left}
 use Rattle.laws.proofs.Good.{AllActs}
-use Rattle.laws_motion.proofs.Steps.{After, if-after, font-after, then-after}
-use Rattle.demands.specs.Demands.{Framing, x-T, x-r, x-i, x-s, NoFraming, Framed}
+use Rattle.laws_offsets.specs.Frame.{Framing, x-T, x-r, x-i, x-s, NoFraming}
 
 -- ---- the phase in which an act may stand, and the one behind it
 
@@ -63,21 +63,27 @@ due-phase e (plain c ns) h = eqb-true (e .phase) 3 h
 due-phase e (raw t) h = eqb-true (e .phase) 3 h
 due-phase e stop h = eqb-true (e .phase) 3 h
 
-abbrev Behind : ℕ → Env → List Glyph → List Item → Type 0
-Behind n d gs xs = d .phase ≡ n
+-- the phase behind a step, where it was not refused
+abbrev Behind : ℕ → Step → Type 0
+Behind n (refused k) = Unit {0}
+Behind n (went d gs xs) = d .phase ≡ n
 
-effect-phase : (e : Env) (a : Act) → e .phase ≡ phases a .0 → After (Behind (phases a .1)) (effect e a)
-effect-phase e (glyph n) p = font-after (Behind 3) e (recorded e n 0) (e .font) refl (λ f k. p)
-effect-phase e (index n) p = font-after (Behind 3) e (indexed e n) (e .font) refl (λ f k. if-both (After (Behind 3)) (ltb n 100_000_000) _ _ p p)
+font-behind : (e : Env) (go : ℕ → Step) (o : Option ℕ) → ((f : ℕ) → Behind 3 (go f)) → Behind 3 (withFont e go o)
+font-behind e go none h = tt
+font-behind e go (some f) h = if-both (Behind 3) (ltb 0 (e .size)) (go f) (refused 8) (h f) tt
+
+effect-phase : (e : Env) (a : Act) → e .phase ≡ phases a .0 → Behind (phases a .1) (effect e a)
+effect-phase e (glyph n) p = font-behind e (recorded e n 0) (e .font) (λ f. p)
+effect-phase e (index n) p = font-behind e (indexed e n) (e .font) (λ f. if-both (Behind 3) (ltb n origin) _ _ p p)
 effect-phase e (to x n) p = p
-effect-phase e (by x n) p = if-after (Behind 3) (fits (get x (e .spot)) n) _ 10 (λ k. p)
+effect-phase e (by x n) p = if-both (Behind 3) (fits (get x (e .spot)) n) _ (refused 10) p tt
 effect-phase e (page n) p = p
-effect-phase e (font n) p = if-after (Behind 3) (isMounted (mountedAt _ (e .mounts))) _ 8 (λ k. p)
+effect-phase e (font n) p = if-both (Behind 3) (isMounted (mountedAt (n - origin) (e .mounts))) _ (refused 8) p tt
 effect-phase e (size n) p = p
 effect-phase e (colour c ns) p = p
 effect-phase e break p = p
 effect-phase e space p = p
-effect-phase e (draw s ns) p = if-after (Behind 3) (mayGo (e .spot) (wayOf s ns)) _ 10 (λ k. p)
+effect-phase e (draw s ns) p = if-both (Behind 3) (mayGo (e .spot) (wayOf s ns)) _ (refused 10) p tt
 effect-phase e (device n) p = refl
 effect-phase e (resolution n h v) p = refl
 effect-phase e init p = refl
@@ -87,14 +93,16 @@ effect-phase e (plain c ns) p = p
 effect-phase e (raw t) p = p
 effect-phase e stop p = refl
 
-abbrev Through : Env → ℕ × ℕ → Env → List Glyph → List Item → Type 0
-Through e p d gs xs = (e .phase ≡ p .0) × (d .phase ≡ p .1)
+-- a step from one phase to another
+abbrev Through : Env → ℕ × ℕ → Step → Type 0
+Through e p (refused n) = Unit {0}
+Through e p (went d gs xs) = (e .phase ≡ p .0) × (d .phase ≡ p .1)
 
-act-through : (e : Env) (a : Act) → After (Through e (phases a)) (act e a)
+act-through : (e : Env) (a : Act) → Through e (phases a) (act e a)
 unfolding act
-act-through e a = if-after (Through e (phases a)) (due e a) (effect e a) 7 (λ d. go (due-phase e a d) (effect e a) (effect-phase e a (due-phase e a d)))
+act-through e a = if-on (Through e (phases a)) (due e a) (effect e a) (refused 7) (λ d. go (due-phase e a d) (effect e a) (effect-phase e a (due-phase e a d))) (λ d. tt)
   where
-    go : e .phase ≡ phases a .0 → (s : Step) → After (Behind (phases a .1)) s → After (Through e (phases a)) s
+    go : e .phase ≡ phases a .0 → (s : Step) → Behind (phases a .1) s → Through e (phases a) s
     go p (refused n) h = tt
     go p (went d gs xs) h = (p, h)
 
@@ -103,14 +111,18 @@ act-through e a = if-after (Through e (phases a)) (due e a) (effect e a) 7 (λ d
 abbrev Inner : List Act → Type 0
 Inner xs = AllActs (λ (a : Act). phases a .1 ≡ 3) xs
 
-run-inner : (xs : List Act) (e : Env) → Inner xs → e .phase ≡ 3 → After (Behind 3) (run e xs)
+behind-before : (n : ℕ) (gs : List Glyph) (xs : List Item) (s : Step) → Behind n s → Behind n (before gs xs s)
+behind-before n gs xs (refused k) h = tt
+behind-before n gs xs (went d gs′ xs′) h = h
+
+run-inner : (xs : List Act) (e : Env) → Inner xs → e .phase ≡ 3 → Behind 3 (run e xs)
 unfolding run
 run-inner [] e h p = p
-run-inner (a ∷ xs) e h p = then-after (Behind 3) (act e a) (λ d. run d xs) (go (λ d q. run-inner xs d (h .1) q) (act e a) (act-through e a))
+run-inner (a ∷ xs) e h p = go (λ d q. run-inner xs d (h .1) q) (act e a) (act-through e a)
   where
-    go : ((d : Env) → d .phase ≡ 3 → After (Behind 3) (run d xs)) → (s : Step) → After (Through e (phases a)) s → After (λ d gs is. After (λ d′ gs′ is′. d′ .phase ≡ 3) (run d xs)) s
+    go : ((d : Env) → d .phase ≡ 3 → Behind 3 (run d xs)) → (s : Step) → Through e (phases a) s → Behind 3 (andThen s (λ d. run d xs))
     go more (refused n) k = tt
-    go more (went d gs is) k = more d (k .1 ∙ h .0)
+    go more (went d gs is) k = behind-before 3 gs is (run d xs) (more d (k .1 ∙ h .0))
 
 abbrev InnerActs : Acts → Type 0
 InnerActs (noActs n) = Unit {0}
@@ -127,13 +139,13 @@ word-inner fs name far (b ∷ bs) = go (widthOf name b fs) (wordActs fs name far
     go (some w) (these xs) h = (refl, (refl, h))
 
 abbrev ThroughActs : Env → Acts → Type 0
-ThroughActs e x = After (Through e (3, 3)) (perform e x)
+ThroughActs e x = Through e (3, 3) (perform e x)
 
 inner-through : (e : Env) (x : Acts) → e .phase ≡ 3 → InnerActs x → ThroughActs e x
 inner-through e (noActs n) p h = tt
 inner-through e (these xs) p h = go (run e xs) (run-inner xs e h p)
   where
-    go : (s : Step) → After (Behind 3) s → After (Through e (3, 3)) s
+    go : (s : Step) → Behind 3 s → Through e (3, 3) s
     go (refused n) k = tt
     go (went d gs is) k = (p, k)
 
@@ -149,11 +161,11 @@ cmdPhases (just a) = phases a
 cmdPhases (word n bs) = (3, 3)
 cmdPhases (pair n b) = (3, 3)
 
-cmd-through : (w : Widths) (e : Env) (c : Cmd) → After (Through e (cmdPhases c)) (perform e (acts w e c))
+cmd-through : (w : Widths) (e : Env) (c : Cmd) → Through e (cmdPhases c) (perform e (acts w e c))
 unfolding run
-cmd-through w e (just a) = then-after (Through e (phases a)) (act e a) (λ d. run d []) (go (act e a) (act-through e a))
+cmd-through w e (just a) = go (act e a) (act-through e a)
   where
-    go : (s : Step) → After (Through e (phases a)) s → After (λ d gs is. After (λ d′ gs′ is′. (e .phase ≡ phases a .0) × (d′ .phase ≡ phases a .1)) (run d [])) s
+    go : (s : Step) → Through e (phases a) s → Through e (phases a) (andThen s (λ d. run d []))
     go (refused n) k = tt
     go (went d gs is) k = k
 cmd-through w e (word n bs) = ready-through e (wordIn w e n bs) (e .font) (λ f. word-inner (w .fonts) _ _ bs)
@@ -227,7 +239,7 @@ onward w e c cs h = go (perform e (acts w e c)) (cmd-through w e c) h
     past gs xs (refused n) k = k
     past gs xs (went v gs′ xs′) k = k
 
-    go : (s : Step) → After (Through e (cmdPhases c)) s → phaseIn 0 (andThen s (λ d. steps w d cs)) ≡ 4 → Onward w e c cs
+    go : (s : Step) → Through e (cmdPhases c) s → phaseIn 0 (andThen s (λ d. steps w d cs)) ≡ 4 → Onward w e c cs
     go (refused n) t k = absurd (omega (arith, k))
     go (went d gs xs) t k = record { next = d; here = t .0; there = t .1; ends = past gs xs (steps w d cs) k }
 
@@ -324,5 +336,7 @@ module _ (w : Widths) where
       outer c x-i k d q g = absurd (omega (arith, k))
       outer c x-s k d q g = absurd (omega (arith, k))
 
-pub framed : Framed
-framed s w end gs xs a = from-0 w (a .commands) start refl (rw (a .performed) (eqb-true (end .phase) 4 (a .ended)))
+-- the commands that end behind `x s`
+pub framed : (w : Widths) (end : Env) (gs : List Glyph) (xs : List Item) (cs : List Cmd) → steps w start cs ≡ went end gs xs → stopped end ≡ true
+    → (n : List ℕ) × (i h v : ℕ) × (ds : List Cmd) × (cs ≡ just (device n) ∷ just (resolution i h v) ∷ just init ∷ (ds ++ just stop ∷ [])) × NoFraming ds
+framed w end gs xs cs p h = from-0 w cs start refl (rw p (eqb-true (end .phase) 4 h))
