@@ -26,13 +26,13 @@ use Rattle.laws_find.specs.Written.{written, GoodQuery}
 use Rattle.laws_find.proofs.Exact.{hits-rise, hits-occur, occurs-hits}
 use Rattle.laws_answers.specs.Statements.{rowsIn, cmdsOf, Exact}
 use Rattle.laws_answers.specs.Statements as T
-use Rattle.laws_answers.proofs.Theorems.{keysIn, keys-by-outline, exactness, answered, queryText, roomy, byAnyCommand}
+use Rattle.laws_answers.proofs.Theorems.{keysIn, keys-by-outline, exactness, answered, queryText, roomy}
 use Rattle.laws_answers.proofs.Numbers.{numbers}
 use Rattle.laws_offsets.specs.Offsets.{FindOffset, OrRoom, Said}
 use Rattle.laws_offsets.proofs.Offsets.{offsets}
 use Rattle.laws_offsets.proofs.ByNumber.{by-number}
 use Rattle.laws_offsets.proofs.Exactly.{exactly}
-use Rattle.demands.specs.Demands.{Allowed, Accepted, recorded, set, IsAccepted, WellFormed, ListOf, FoundAll, SetBy, none, c-or-C, t-or-u, two-digits, motion, Motion, to-place, by-way, SetOtherwise, ended, same, otherwise, moved, moved₂, FiveForms, SameList, Alike}
+use Rattle.demands.specs.Demands.{Allowed, Accepted, recorded, set, IsAccepted, WellFormed, ListOf, FoundAll, SetBy, none, c-or-C, t-or-u, two-digits, motion, Motion, to-place, by-way, SetOtherwise, ended, same, otherwise, moved, moved₂, SameList, Alike}
 use Rattle.demands.proofs.Allowed.{ReadsTo, allowed-reads, allowed-accepted, commands-are, Stream, read-allowed}
 use Rattle.demands.proofs.ReadCalls.{take-over, drop-over, length-over, glyphs-seen, rows-stand, Rows, accepted-call}
 
@@ -378,9 +378,6 @@ outline-keys s list gs a =
 pub otherwise-keys : (s list s₂ list₂ : List ℕ) (gs gs₂ : List Glyph) (a : Accepted s list gs) (a₂ : Accepted s₂ list₂ gs₂) → SetOtherwise (a .allowed .commands) (a₂ .allowed .commands) → map key gs ≡ map key gs₂
 otherwise-keys s list s₂ list₂ gs gs₂ a a₂ h =
     outline-keys s list gs a ∙ ap (keysFrom 0 0) (otherwise-outline (a .allowed .commands) (a₂ .allowed .commands) h) ∙ sym (outline-keys s₂ list₂ gs₂ a₂)
-
-pub five-forms : (b : ℕ) (r : List ℕ) → Rattle.rules.specs.Bytes.isWhite b ≡ false → FiveForms b r
-five-forms b r h = let x = byAnyCommand .one-byte b r h in record { by-c = x .by-c; by-C = x .by-C; by-t = x .by-t; by-u = x .by-u; by-digits = x .by-digits }
 
 -- ---- alike
 

@@ -1,4 +1,5 @@
 pub mod Allowed
+pub mod Forms
 pub mod ReadCalls
 pub mod Places
 pub mod SpellCalls

@@ -5,10 +5,11 @@ use mathlib.Core.Bool.{true}
 use mathlib.Core.List.{List, [], _∷_, _++_, map, map-map, map-append}
 use mathlib.Core.Path.{_≡_, refl, sym, ap, ap₂, subst, _∙_}
 use lib.ListN.{length, take, drop, length-map}
+use borrow.Author.Tests.{ne-eqb}
 use Rattle.rules.specs.declared.Record.{Record}
 use Rattle.rules.specs.declared.Entry.{Entry}
 use Rattle.rules.specs.declared.Reading.{Reading}
-use Rattle.rules.specs.Bytes.{if_then_else_, bytes, isNotNewline, oneLine}
+use Rattle.rules.specs.Bytes.{if_then_else_, bytes, oneLine}
 use Rattle.rules.specs.Act.{Cmd, just, word, pair}
 use Rattle.rules.specs.Scan.{commands}
 use Rattle.rules.specs.Widths.{Widths}
@@ -20,7 +21,8 @@ use Rattle.rules.specs.Calls.{ReadCall}
 use Rattle.laws.proofs.Cases.{on, no}
 use Rattle.laws_read.specs.Outline.{Sign, namedSign, indexSign, gapSign, pageSign, signsOf, keysFrom}
 use Rattle.laws_read.proofs.Alike.{ShownBy, shown-keys, step-shown}
-use Rattle.laws_scan.proofs.Bounds.{span-le, command-within}
+use Rattle.laws_find.proofs.Written.{white-true, not-white-false}
+use Rattle.laws_scan.proofs.Bounds.{command-within}
 use Rattle.laws_scan.proofs.Walk.{commands-drop}
 use Rattle.laws_motion.specs.Records.{letters, isSome}
 use Rattle.laws_motion.proofs.Steps.{After, then-after}
@@ -28,7 +30,7 @@ use Rattle.laws_motion.proofs.Held.{entered-holds}
 use Rattle.laws_offsets.proofs.Places.{Quiet, word-enters-none, pair-enters-none}
 use Rattle.laws_answers.proofs.Theorems.{read-follow}
 use Rattle.demands.specs.Demands.{SoundList, ConsistsOf, ended, white, comment, one, Allowed, standFrom, namesOf, namePlaces, Stretch, stretch, isEntered, entryPlaces}
-use Rattle.demands.proofs.Allowed.{hash-not-white, ReadsTo, inputs, allowed-reads, allowed-accepted}
+use Rattle.demands.proofs.Allowed.{comment-skipped, ReadsTo, inputs, allowed-reads, allowed-accepted}
 use Rattle.demands.proofs.ReadCalls.{take-over, Rows, counts, items-count, allowed-call}
 
 -- ---- one command
@@ -113,15 +115,15 @@ module _ (w : Widths) where
       → In (follow w e (commands at 0 s)) (namePlaces s cs c at) (entryPlaces s cs c at)
   unfolding commands follow namePlaces entryPlaces
   follow-places s cs ended at e h = on (stopped e) (λ k. rw k (refl, refl)) (λ k. no (rw k at h))
-  follow-places s cs (white b r cs′ p c) at e h = rw p (follow-places r cs′ c (at + 1) e (rw p at h))
-  follow-places s cs (comment b r cs′ p c) at e h =
-      let f : commands (at + 1) (oneLine r) r ≡ commands (at + 1 + oneLine r) 0 (drop (oneLine r) r) = commands-drop (oneLine r) (at + 1) r (span-le isNotNewline r) in
-      rw (hash-not-white b p, p, f) (follow-places (drop (oneLine r) r) cs′ c (at + 1 + oneLine r) e (rw (hash-not-white b p, p, f) at h))
+  follow-places s cs (white b r cs′ p c) at e h = rw (white-true b p) (follow-places r cs′ c (at + 1) e (rw (white-true b p) at h))
+  follow-places s cs (comment k r cs′ n p c) at e h =
+      let f : commands (at + 1) (oneLine (k ++ r)) (k ++ r) ≡ commands (at + 1 + length k) 0 r = comment-skipped k r (at + 1) n p in
+      rw f (follow-places r cs′ c (at + 1 + length k) e (rw f at h))
   follow-places s cs (one b r d a l cs′ p q f c) at e h =
       let z : (1 ≤ l) × (l ≤ suc (length r)) × (a ≤ l) = command-within b r d a l f in
       let i : at + 1 + (l - 1) ≡ at + l = omega (arith, z) in
       let k : commands (at + 1) (l - 1) r ≡ commands (at + l) 0 (drop (l - 1) r) = commands-drop (l - 1) (at + 1) r (omega (arith, z)) ∙ ap (λ (j : ℕ). commands j 0 (drop (l - 1) r)) i in
-      rw (p, q, f, k) (go (perform e (acts w e d)) (step-shown w e d) (step-entered w e at l d) (λ v g. follow-places (drop (l - 1) r) cs′ c (at + l) v g) (rw (p, q, f, k) at h))
+      rw (not-white-false b p, ne-eqb b 35 q, f, k) (go (perform e (acts w e d)) (step-shown w e d) (step-entered w e at l d) (λ v g. follow-places (drop (l - 1) r) cs′ c (at + l) v g) (rw (not-white-false b p, ne-eqb b 35 q, f, k) at h))
     where
       go : (x : Step) → ShownBy e (signsOf d) x → EnteredAt d at l x
           → ((v : Env) → isAccepted (follow w v (commands (at + l) 0 (drop (l - 1) r))) ≡ true → In (follow w v (commands (at + l) 0 (drop (l - 1) r))) (namePlaces (drop (l - 1) r) cs′ c (at + l)) (entryPlaces (drop (l - 1) r) cs′ c (at + l)))

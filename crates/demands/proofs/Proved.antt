@@ -28,10 +28,12 @@ use Rattle.laws_motion.proofs.Worded.{advances-hold, words-hold}
 use Rattle.laws_motion.proofs.Runs.{in-every-run, in-every-list}
 use Rattle.laws_motion.proofs.Needed.{reasons-hold, phases-hold}
 use Rattle.laws_motion.proofs.Held.{recorded-holds, entered-holds, settings-hold, ends-hold}
+use Rattle.laws_offsets.proofs.Framed as frame
 use Rattle.laws_answers.proofs.Judged.{judged}
 use Rattle.demands.specs.Demands as D
 use Rattle.demands.specs.Demands.{SoundList, Allowed, houseSpelling}
 use Rattle.demands.proofs.Allowed.{Stream, read-allowed}
+use Rattle.demands.proofs.Forms as forms
 use Rattle.demands.proofs.ReadCalls as read-calls
 use Rattle.demands.proofs.Places as places
 use Rattle.demands.proofs.SpellCalls as spell-calls
@@ -81,6 +83,9 @@ accept-exactly = record {
   only-where-allowed = λ s list rs es r rs′ es′ c h. read-calls.only-allowed s list rs es r rs′ es′ c h;
 }
 
+pub framed : D.Framed
+framed s w end gs xs a = frame.framed w end gs xs (a .commands) (a .performed) (a .ended)
+
 pub record-each : D.RecordEach
 record-each s list rs es r rs′ es′ w end gs xs c l p q a = read-calls.records-each s list rs es r rs′ es′ c w end gs xs l a p q
 
@@ -114,6 +119,9 @@ pub refused-colours : D.RefusedColours
 refused-colours s list rs es r rs′ es′ number at c h =
     let e : r ≡ readingOf (refuse number at) = c .answer ∙ ap readingOf (read-calls.refused-into s list rs es r rs′ es′ c number at h) in
     (ap (λ (x : Reading). x .glyph) e, ap (λ (x : Reading). x .fill) e)
+
+pub number-forms : D.NumberForms
+number-forms = forms.number-forms
 
 -- the sample, read by the rules
 abbrev counts : Answer → ℕ × ℕ
@@ -171,7 +179,7 @@ find-exactly = record {
 
 pub by-any-command : D.ByAnyCommand
 by-any-command = record {
-  forms = find-calls.five-forms;
+  forms = forms.five-forms;
   no-difference = λ s list s₂ list₂ q rs rs₂ hs hs₂ r r₂ rs′ rs₂′ hs′ hs₂′ gs gs₂ qs is a a₂ o c c₂ w l p p₂ k k₂.
       find-calls.same-by-keys s list s₂ list₂ q rs rs₂ hs hs₂ r r₂ rs′ rs₂′ hs′ hs₂′ gs gs₂ qs is a a₂ (find-calls.otherwise-keys s list s₂ list₂ gs gs₂ a a₂ o) c c₂ w l p p₂ k k₂;
 }

@@ -3,7 +3,7 @@
 --
 -- s is a stream, list a width list, q a query; rs, es and hs are the lent rows of records, entries and record numbers, o is the lent
 -- buffer; r is the answer, and what the rows and the buffer hold afterwards has a prime.
-use Prim.Native.Nat.{ℕ, _+_, _-_, _<_, _≤_}
+use Prim.Native.Nat.{ℕ, _+_, _*_, _-_, _<_, _≤_}
 use mathlib.Core.Bool.{Bool, true, false}
 use mathlib.Core.List.{List, [], _∷_, _++_, map}
 use mathlib.Core.Logic.{_⊎_}
@@ -21,25 +21,26 @@ use Rattle.rules.specs.declared.Respelling.the-variants as S
 use Rattle.rules.specs.declared.Finding.{Finding}
 use Rattle.rules.specs.declared.Finding.the-variants as F
 use Rattle.rules.specs.declared.Judging.the-variants as J
-use Rattle.rules.specs.Bytes.{if_then_else_, bytes, is, isWhite, oneLine, origin}
-use Rattle.rules.specs.Act.{Axis, Act, glyph, to, by, Cmd, just, word, pair}
+use Rattle.rules.specs.Bytes.{if_then_else_, bytes, origin}
+use Rattle.rules.specs.Act.{Axis, across, down, Act, glyph, index, to, by, page, font, size, device, resolution, init, stop, Cmd, just, word, pair}
 use Rattle.rules.specs.Scan.{got, command}
 use Rattle.rules.specs.Widths.{Widths, sound, widthList}
 use Rattle.rules.specs.State.{Env, Glyph, Item, went, start, steps, stopped}
 use Rattle.rules.specs.Record.{shown, lettersOf, colourOf}
-use Rattle.rules.specs.House.{spelling, spellAll}
+use Rattle.rules.specs.House.{signedDecimal, spelling, spellAll}
 use Rattle.rules.specs.Find.{Wanted, Key}
 use Rattle.rules.specs.Calls.{ReadCall, RespellCall, FindCall, JudgeCall}
 use Rattle.laws_read.specs.Outline.{signsOf, outline, keysFrom}
 use Rattle.laws_read.specs.Kept.{allKept}
 use Rattle.laws_read.specs.Spots.{spotsOf}
-use Rattle.laws_scan.specs.Texts.{IntegersAsWritten, LineBreaks, IgnoredInLimit}
+use Rattle.laws_scan.specs.Texts.{Spacer, NoDigit, IntegersAsWritten, LineBreaks, IgnoredInLimit}
 use Rattle.laws_find.specs.Occurs.{OccursAt, Elem, Rising}
-use Rattle.laws_find.specs.Written.{written, GoodQuery}
-use Rattle.laws_motion.specs.Motions.{NumberTexts, Motions, Refusal10, Advances, Words}
+use Rattle.laws_find.specs.Written.{White, NoWhite, GoodName, written, GoodQuery}
+use Rattle.laws_motion.specs.Motions.{InLimit, NumberTexts, Motions, Refusal10, Advances, Words}
 use Rattle.laws_motion.specs.Records.{Recorded, letters, isSome, Entered, Settings, AnswerHolds}
 use Rattle.laws_motion.specs.Runs.{InEveryRun, InEveryList}
 use Rattle.laws_motion.specs.Needs.{Phases, Reasons}
+use Rattle.laws_offsets.specs.Frame.{NoFraming}
 use Rattle.laws_offsets.specs.Offsets.{ReadOffset, FindOffset, OrRoom, Said}
 use Rattle.laws_house.specs.Lines.{HouseText}
 use Rattle.laws_needed.specs.Statement.{OnlyWhereItDiffers}
@@ -51,17 +52,27 @@ pub record SoundList (list : List ℕ) (w : Widths) : Type 0 where
   pub short : length list ≤ 65_536
   pub says : widthList list ≡ sound w
 
+-- "Space, tab and newline are whitespace" (`White`: `laws_find`, Written.antt). "A spacer is any run, perhaps empty, of spaces and tabs."
+-- (`Spacer`: `laws_scan`, Texts.antt). "End of input counts as a line break."
+abbrev pub LineBreak : List ℕ → Type 0
+LineBreak [] = Unit {0}
+LineBreak (b ∷ t) = b ≡ 10
+
+abbrev pub NoNewline : List ℕ → Type 0
+NoNewline [] = Unit {0}
+NoNewline (b ∷ k) = (b ≡ 10 → ⊥) × NoNewline k
+
 -- the bytes are these commands, each written as 01 has it and within its limits, with whitespace and comments before, between and
--- behind them
+-- behind them: "`#`, where a command or a line break could stand, starts a comment up to the newline"
 pub data ConsistsOf : List ℕ → List Cmd → Type 0 where
   ended : ConsistsOf [] []
-  white : (b : ℕ) (r : List ℕ) (cs : List Cmd) → isWhite b ≡ true → ConsistsOf r cs → ConsistsOf (b ∷ r) cs
-  comment : (b : ℕ) (r : List ℕ) (cs : List Cmd) → is "#" b ≡ true → ConsistsOf (drop (oneLine r) r) cs → ConsistsOf (b ∷ r) cs
-  one : (b : ℕ) (r : List ℕ) (c : Cmd) (name len : ℕ) (cs : List Cmd) → isWhite b ≡ false → is "#" b ≡ false
+  white : (b : ℕ) (r : List ℕ) (cs : List Cmd) → White b → ConsistsOf r cs → ConsistsOf (b ∷ r) cs
+  comment : (k r : List ℕ) (cs : List Cmd) → NoNewline k → LineBreak r → ConsistsOf r cs → ConsistsOf (35 ∷ (k ++ r)) cs
+  one : (b : ℕ) (r : List ℕ) (c : Cmd) (name len : ℕ) (cs : List Cmd) → (White b → ⊥) → (b ≡ 35 → ⊥)
       → command b r ≡ got c name len → ConsistsOf (drop (len - 1) r) cs → ConsistsOf (b ∷ r) (c ∷ cs)
 
 -- "groff_out(5), as 01 fixes it, allows it": at most 16,777,216 bytes of commands, each of which may be performed where it stands, the
--- last of them `x s`; they come to these glyphs, drawings and controls, and end in this environment
+-- last of them `x s` (`Framed`); they come to these glyphs, drawings and controls, and end in this environment
 pub record Allowed (s : List ℕ) (w : Widths) (end : Env) (gs : List Glyph) (xs : List Item) : Type 0 where
   pub short : length s ≤ 16_777_216
   pub commands : List Cmd
@@ -171,6 +182,14 @@ pub record LeaveAlone : Type 0 where
   pub finder : (s list q : List ℕ) (rs : List Record) (hs : List ℕ) (rs′ : List Record) (hs′ : List ℕ) (number at : ℕ)
       → FindCall s list q rs hs (F.Refused number at) rs′ hs′ → (rs′ ≡ rs) × (hs′ ≡ hs)
 
+-- A refusal of the reader tells the default scheme, `d`, with four zeros as both colours (house).
+abbrev pub defaultColour : Colour
+defaultColour = record { scheme = 100; parts = 0 ∷ 0 ∷ 0 ∷ 0 ∷ [] }
+
+abbrev pub RefusedColours : Type 0
+RefusedColours = (s list : List ℕ) (rs : List Record) (es : List Entry) (r : Reading) (rs′ : List Record) (es′ : List Entry) (number at : ℕ)
+    → ReadCall s list rs es r rs′ es′ → r .answer ≡ R.Refused number at → (r .glyph ≡ defaultColour) × (r .fill ≡ defaultColour)
+
 -- ==== 2
 
 -- "With a sound width list and rows large enough, a stream is accepted exactly when groff_out(5), as 01 fixes it, allows it." Large enough
@@ -182,6 +201,13 @@ pub record AcceptExactly : Type 0 where
   pub only-where-allowed : (s list : List ℕ) (rs : List Record) (es : List Entry) (r : Reading) (rs′ : List Record) (es′ : List Entry)
       → ReadCall s list rs es r rs′ es′ → IsAccepted (r .answer)
       → (w : Widths) × (end : Env) × (gs : List Glyph) × (xs : List Item) × SoundList list w × Allowed s w end gs xs × (length gs ≤ length rs) × (length xs ≤ length es)
+
+-- 01: "Prologue: `x T`, `x r`, `x i`, in that order, nothing before or between but whitespace and comments. `x s` ends the stream; behind it
+-- only whitespace and comments." The commands of every allowed stream are these, and none of the four is among cs (`NoFraming`:
+-- `laws_offsets`, Frame.antt).
+abbrev pub Framed : Type 0
+Framed = (s : List ℕ) (w : Widths) (end : Env) (gs : List Glyph) (xs : List Item) (a : Allowed s w end gs xs)
+    → (n : List ℕ) × (i h v : ℕ) × (cs : List Cmd) × (a .commands ≡ just (device n) ∷ just (resolution i h v) ∷ just init ∷ (cs ++ just stop ∷ [])) × NoFraming cs
 
 -- "Each glyph is then recorded once, in order, with the name, page, place, font and size 01 gives it." Each drawing and control is entered
 -- once, in order. Where names stand in the stream is said in `NamesInPlace`; where entries do, and their lengths, in `EntriesInPlace`. The
@@ -214,7 +240,7 @@ namesOf c = map (λ (k : Key). k .name) (keysFrom 0 0 (signsOf c))
 unfoldable pub namePlaces : (s : List ℕ) (cs : List Cmd) → ConsistsOf s cs → ℕ → List ℕ
 namePlaces s cs ended at = []
 namePlaces s cs (white b r cs′ h c) at = namePlaces r cs′ c (at + 1)
-namePlaces s cs (comment b r cs′ h c) at = namePlaces (drop (oneLine r) r) cs′ c (at + 1 + oneLine r)
+namePlaces s cs (comment k r cs′ n h c) at = namePlaces r cs′ c (at + 1 + length k)
 namePlaces s cs (one b r d name len cs′ w h e c) at = standFrom (at + name) (namesOf d) ++ namePlaces (drop (len - 1) r) cs′ c (at + len)
 
 abbrev pub NamesInPlace : Type 0
@@ -241,7 +267,7 @@ isEntered (pair n b) = false
 unfoldable pub entryPlaces : (s : List ℕ) (cs : List Cmd) → ConsistsOf s cs → ℕ → List Stretch
 entryPlaces s cs ended at = []
 entryPlaces s cs (white b r cs′ h c) at = entryPlaces r cs′ c (at + 1)
-entryPlaces s cs (comment b r cs′ h c) at = entryPlaces (drop (oneLine r) r) cs′ c (at + 1 + oneLine r)
+entryPlaces s cs (comment k r cs′ n h c) at = entryPlaces r cs′ c (at + 1 + length k)
 entryPlaces s cs (one b r d name len cs′ w h e c) at = (if isEntered d then record { place = at; len = len } ∷ [] else []) ++ entryPlaces (drop (len - 1) r) cs′ c (at + len)
 
 abbrev pub EntriesInPlace : Type 0
@@ -281,13 +307,22 @@ pub record AsWritten01 : Type 0 where
   -- "Its magnitude is at most 99,999,999" binds the numbers of `n` and every dummy too
   pub ignored : IgnoredInLimit
 
--- a refusal tells the default scheme, `d`, with four zeros as both colours (house)
-abbrev pub defaultColour : Colour
-defaultColour = record { scheme = 100; parts = 0 ∷ 0 ∷ 0 ∷ 0 ∷ [] }
+-- How commands of one number are written: "`H` `h` `V` `v` n: h = n, h + n, v = n, v + n", `N` n, `p` n, `f` n and `s` n. Behind the letter
+-- stand a spacer k and the number n (moved up, as all are in the rules) as the house writes it; "it ends at the next non-digit". The
+-- command has no name and is so many bytes long.
+abbrev pub OneNumber : ℕ → (ℕ → Act) → (ℕ → Type 0) → Type 0
+OneNumber letter a Limit = (k : List ℕ) (n : ℕ) (t : List ℕ) → Spacer k → Limit n → NoDigit t
+    → command letter (k ++ (signedDecimal n ++ t)) ≡ got (just (a n)) 0 (1 + length k + length (signedDecimal n))
 
-abbrev pub RefusedColours : Type 0
-RefusedColours = (s list : List ℕ) (rs : List Record) (es : List Entry) (r : Reading) (rs′ : List Record) (es′ : List Entry) (number at : ℕ)
-    → ReadCall s list rs es r rs′ es′ → r .answer ≡ R.Refused number at → (r .glyph ≡ defaultColour) × (r .fill ≡ defaultColour)
+pub record NumberForms : Type 0 where
+  pub by-H : OneNumber 72 (to across) (λ n. InLimit (shown n))
+  pub by-h : OneNumber 104 (by across) (λ n. InLimit (shown n))
+  pub by-V : OneNumber 86 (to down) (λ n. InLimit (shown n))
+  pub by-v : OneNumber 118 (by down) (λ n. InLimit (shown n))
+  pub by-N : OneNumber 78 index (λ n. InLimit (shown n))
+  pub by-p : OneNumber 112 page (λ n. InLimit (shown n))
+  pub by-f : OneNumber 102 font (λ n. (origin ≤ n) × (n ≤ origin + 255))
+  pub by-s : OneNumber 115 size (λ n. (origin + 1 ≤ n) × (n ≤ origin + 99_999_999))
 
 -- Something is allowed: 01's sample stream with its list, three glyphs and five controls.
 abbrev pub sampleList : List ℕ
@@ -409,13 +444,20 @@ pub data SetOtherwise : List Cmd → List Cmd → Type 0 where
   moved : (c : Cmd) (cs cs₂ : List Cmd) → Motion c → SetOtherwise cs cs₂ → SetOtherwise (c ∷ cs) cs₂
   moved₂ : (c : Cmd) (cs cs₂ : List Cmd) → Motion c → SetOtherwise cs cs₂ → SetOtherwise cs (c ∷ cs₂)
 
--- a byte that is no whitespace, set by each of the five in front of a newline: `cb`, `Cb`, `tb`, `u0 b`, `00b`
-pub record FiveForms (b : ℕ) (r : List ℕ) : Type 0 where
-  pub by-c : command 99 (b ∷ 10 ∷ r) ≡ got (just (glyph (b ∷ []))) 1 2
-  pub by-C : command 67 (b ∷ 10 ∷ r) ≡ got (just (glyph (b ∷ []))) 1 2
-  pub by-t : command 116 (b ∷ 10 ∷ r) ≡ got (word origin (b ∷ [])) 1 2
-  pub by-u : command 117 (48 ∷ 32 ∷ b ∷ 10 ∷ r) ≡ got (word origin (b ∷ [])) 3 4
-  pub by-digits : command 48 (48 ∷ b ∷ 10 ∷ r) ≡ got (pair origin b) 2 3
+-- The five are written so: "`c` g", "`C` name", "`t` word", "`u` n word" and "two digits, glyph byte: .. spacers may stand within". A glyph
+-- byte, and each byte of a name or word, is any but whitespace, `#` too; k and l are spacers, t is a line break and what follows it; the
+-- number of `u` is one as the house writes it, and a spacer parts it from the word. Behind the equation's command stand where its name
+-- begins and its length.
+pub record FiveForms : Type 0 where
+  pub by-c : (k : List ℕ) (b : ℕ) (t : List ℕ) → Spacer k → (White b → ⊥) → command 99 (k ++ b ∷ t) ≡ got (just (glyph (b ∷ []))) (1 + length k) (2 + length k)
+  pub by-C : (k n t : List ℕ) → Spacer k → GoodName n → LineBreak t → command 67 (k ++ (n ++ t)) ≡ got (just (glyph n)) (1 + length k) (1 + length k + length n)
+  pub by-t : (k : List ℕ) (b : ℕ) (bs t : List ℕ) → Spacer k → NoWhite (b ∷ bs) → LineBreak t
+      → command 116 (k ++ (b ∷ bs ++ t)) ≡ got (word origin (b ∷ bs)) (1 + length k) (1 + length k + length (b ∷ bs))
+  pub by-u : (k : List ℕ) (n c : ℕ) (l : List ℕ) (b : ℕ) (bs t : List ℕ) → Spacer k → InLimit (shown n) → Spacer (c ∷ l) → NoWhite (b ∷ bs) → LineBreak t
+      → command 117 (k ++ (signedDecimal n ++ (c ∷ l ++ (b ∷ bs ++ t))))
+      ≡ got (word n (b ∷ bs)) (1 + length k + length (signedDecimal n) + length (c ∷ l)) (1 + length k + length (signedDecimal n) + length (c ∷ l) + length (b ∷ bs))
+  pub by-digits : (d e : ℕ) (k l : List ℕ) (b : ℕ) (t : List ℕ) → d ≤ 9 → e ≤ 9 → Spacer k → Spacer l → (White b → ⊥)
+      → command (48 + d) (k ++ (48 + e) ∷ (l ++ b ∷ t)) ≡ got (pair (origin + (10 * d + e)) b) (2 + length k + length l) (3 + length k + length l)
 
 -- the same answer, and the same list where one is given
 pub record SameList (r r₂ : Finding) (hs′ hs₂′ : List ℕ) : Type 0 where
@@ -423,7 +465,7 @@ pub record SameList (r r₂ : Finding) (hs′ hs₂′ : List ℕ) : Type 0 wher
   pub list : (n k : ℕ) → r ≡ F.Accepted n k → take k hs′ ≡ take k hs₂′
 
 pub record ByAnyCommand : Type 0 where
-  pub forms : (b : ℕ) (r : List ℕ) → isWhite b ≡ false → FiveForms b r
+  pub forms : FiveForms
   pub no-difference : (s list s₂ list₂ q : List ℕ) (rs rs₂ : List Record) (hs hs₂ : List ℕ) (r r₂ : Finding) (rs′ rs₂′ : List Record) (hs′ hs₂′ : List ℕ) (gs gs₂ : List Glyph) (qs : List Wanted) (is : List ℕ)
       → (a : Accepted s list gs) → (a₂ : Accepted s₂ list₂ gs₂) → SetOtherwise (a .allowed .commands) (a₂ .allowed .commands)
       → FindCall s list q rs hs r rs′ hs′ → FindCall s₂ list₂ q rs₂ hs₂ r₂ rs₂′ hs₂′ → WellFormed q qs → ListOf qs gs is

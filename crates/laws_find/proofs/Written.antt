@@ -4,6 +4,7 @@ use native.Mathlib.Omega.{arith}
 use native.Mathlib.Nat.{add-zero, le-of-suc-le-suc}
 use mathlib.Core.Bool.{Bool, true, false, _&&_, _||_}
 use mathlib.Core.List.{List, [], _∷_, _++_, append-assoc}
+use mathlib.Core.Logic.{inl, inr}
 use mathlib.Core.Option.{Option, none, some}
 use mathlib.Core.Path.{_≡_, refl, sym, ap, _∙_}
 use lib.Dec.{ltb, leb, eqb}
@@ -14,9 +15,27 @@ use Rattle.rules.specs.Widths.{Line, withByte, linesFrom, behind, isString}
 use Rattle.rules.specs.Find.{Gap, anyGap, noGap, someGap, Wanted, Key, Expected, firstGlyph, gapGlyph, either, Query, illFormed, wellFormed, queryEnds, withWanted, gapOf, mayAsk, queryLine, queryLines, query}
 use Rattle.laws.proofs.Cases.{on, no, and-left, and-right}
 use Rattle.laws_find.specs.Occurs.{AllAsked, IsAsked, keyAt, wantedAt, OccursAt}
-use Rattle.laws_find.specs.Written.{glyphLine, gapLine, gapBefore, written, NoWhite, GoodName, GoodNames, GoodQuery}
+use Rattle.laws_find.specs.Written.{glyphLine, gapLine, gapBefore, written, White, NoWhite, GoodName, GoodNames, GoodQuery}
 use Rattle.laws_find.proofs.Exact.{same-eq}
 use Rattle.laws_find.proofs.Asked.{query-shape, shape-some}
+
+-- ---- whitespace: the rules' test
+
+pub white-true : (b : ℕ) → White b → isWhite b ≡ true
+white-true b (inl h) = rw h
+white-true b (inr (inl h)) = rw h
+white-true b (inr (inr h)) = rw h
+
+pub true-white : (b : ℕ) → isWhite b ≡ true → White b
+true-white b h =
+    on (is " " b) (λ k. inl (eqb-true b 32 k))
+    (λ k. on (is "\t" b) (λ j. inr (inl (eqb-true b 9 j))) (λ j. inr (inr (eqb-true b 10 (rw (k, j) at h)))))
+
+pub false-not-white : (b : ℕ) → isWhite b ≡ false → White b → ⊥
+false-not-white b h w = no (sym h ∙ white-true b w)
+
+pub not-white-false : (b : ℕ) → (White b → ⊥) → isWhite b ≡ false
+not-white-false b h = on (isWhite b) (λ k. absurd (h (true-white b k))) (λ k. k)
 
 -- ---- names
 
@@ -24,12 +43,12 @@ span-no-white : (n : List ℕ) → span isNotWhite n ≡ length n → NoWhite n
 unfolding span
 span-no-white [] h = tt
 span-no-white (b ∷ n) h = on (isWhite b) (λ e. absurd (let z : 0 ≡ suc (length n) = rw e at h in omega arith))
-    (λ e. (e, span-no-white n (let z : suc (span isNotWhite n) ≡ suc (length n) = rw e at h in omega arith)))
+    (λ e. (false-not-white b e, span-no-white n (let z : suc (span isNotWhite n) ≡ suc (length n) = rw e at h in omega arith)))
 
 no-white-span : (n : List ℕ) → NoWhite n → span isNotWhite n ≡ length n
 unfolding span
 no-white-span [] h = refl
-no-white-span (b ∷ n) h = rw (h .0) (ap suc (no-white-span n (h .1)))
+no-white-span (b ∷ n) h = rw (not-white-false b (h .0)) (ap suc (no-white-span n (h .1)))
 
 string-good : (n : List ℕ) → isString n ≡ true → GoodName n
 string-good n h =
@@ -58,7 +77,7 @@ or-right false b h = h
 
 no-white-line : (n : List ℕ) → NoWhite n → OneLine n
 no-white-line [] h = tt
-no-white-line (b ∷ n) h = (or-right (isSpace b) (is "\n" b) (h .0), no-white-line n (h .1))
+no-white-line (b ∷ n) h = (or-right (isSpace b) (is "\n" b) (not-white-false b (h .0)), no-white-line n (h .1))
 
 pub line-front : (t : List ℕ) (at : ℕ) (r : List ℕ) → OneLine t → linesFrom at (t ++ 10 ∷ r) ≡ record { place = at; text = t; ended = true } ∷ linesFrom (at + length t + 1) r
 unfolding linesFrom

@@ -1,10 +1,10 @@
 -- Document 01, "Finding": the text of a query, as a function of its glyphs.
 use Prim.Native.Nat.{ℕ, _≤_}
-use mathlib.Core.Bool.{false}
 use mathlib.Core.List.{List, [], _∷_, _++_}
+use mathlib.Core.Logic.{_⊎_}
 use mathlib.Core.Path.{_≡_}
 use lib.ListN.{length}
-use Rattle.rules.specs.Bytes.{bytes, isWhite}
+use Rattle.rules.specs.Bytes.{bytes}
 use Rattle.rules.specs.Find.{Gap, anyGap, noGap, someGap, Wanted}
 use Rattle.laws_find.specs.Occurs.{QueryShape}
 
@@ -26,10 +26,14 @@ unfoldable pub written : List Wanted → List ℕ
 written [] = []
 written (q ∷ qs) = gapBefore (q .gap) ++ (glyphLine (q .name) ++ written qs)
 
+-- "Space, tab and newline are whitespace."
+abbrev pub White : ℕ → Type 0
+White b = (b ≡ 32) ⊎ ((b ≡ 9) ⊎ (b ≡ 10))
+
 -- "NAME is a string of 1 to 64 bytes"; "A string is one or more non-whitespace bytes"
 abbrev pub NoWhite : List ℕ → Type 0
 NoWhite [] = Unit {0}
-NoWhite (b ∷ n) = (isWhite b ≡ false) × NoWhite n
+NoWhite (b ∷ n) = (White b → ⊥) × NoWhite n
 
 pub record GoodName (n : List ℕ) : Type 0 where
   pub some : 1 ≤ length n

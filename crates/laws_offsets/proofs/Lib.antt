@@ -7,3 +7,4 @@ pub mod Offsets
 pub mod ByNumber
 pub mod Exactly
 pub mod Places
+pub mod Framed

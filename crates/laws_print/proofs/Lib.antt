@@ -1,3 +1,4 @@
 pub mod Back
 pub mod Decimals
+pub mod Forms
 pub mod Trip
