@@ -446,9 +446,9 @@ pub data SetOtherwise : List Cmd → List Cmd → Type 0 where
   moved₂ : (c : Cmd) (cs cs₂ : List Cmd) → Motion c → SetOtherwise cs cs₂ → SetOtherwise cs (c ∷ cs₂)
 
 -- The five are written so: "`c` g", "`C` name", "`t` word", "`u` n word" and "two digits, glyph byte: .. spacers may stand within". A glyph
--- byte, and each byte of a name or word, is any but whitespace, `#` too; k and l are spacers, t is a line break and what follows it; the
--- number of `u` is one as the house writes it, and a spacer parts it from the word. Behind the equation's command stand where its name
--- begins and its length.
+-- byte, and each byte of a name or word, is any but whitespace, `#` too; k and l are spacers; t is anything behind one glyph byte, and a
+-- line break and what follows it behind a name or word; the number of `u` is one as the house writes it, and a spacer parts it from the
+-- word. Each equation has the command, where its name begins, and its length.
 pub record FiveForms : Type 0 where
   pub by-c : (k : List ℕ) (b : ℕ) (t : List ℕ) → Spacer k → (White b → ⊥) → command 99 (k ++ b ∷ t) ≡ got (just (glyph (b ∷ []))) (1 + length k) (2 + length k)
   pub by-C : (k n t : List ℕ) → Spacer k → GoodName n → LineBreak t → command 67 (k ++ (n ++ t)) ≡ got (just (glyph n)) (1 + length k) (1 + length k + length n)
