@@ -1,7 +1,7 @@
 #!/usr/bin/env bash
 # Wrong definitions that a theorem must refuse. Each file of theorem-edits/ names a file of crates/rules/specs, a piece of it as
 # it stands, a wrong one, and the proof file that must no longer hold. `rt must-fail` tries an edit on one crate alone; here the
-# crate of that proof is checked, in a copy of the repository without the samples, so that the theorem itself is what refuses.
+# crate of that proof is checked, in a copy of what it stands on without the samples, so that the theorem itself is what refuses.
 # With EDIT_LOGS set to a folder, each check's output is kept there.
 set -u
 cd "$(dirname "$0")/.." || exit 2
@@ -41,12 +41,17 @@ told() {
 }
 export -f field try told
 
-mkdir -p "$work/clean"
-cp -r crates crates.txt "$work/clean"
+# The crates that edits name, with all that these stand on: a crate's line in crates.txt names them, from the bottom up.
+proving=$(sed -n 's|^refused: crates/\([a-z_]*\)/.*|\1|p' tests/theorem-edits/*.edit | sort -u)
+mkdir -p "$work/clean/crates"
+# shellcheck disable=SC2086 # one word a crate
+tac crates.txt | awk -F: -v names="$(echo $proving)" '
+    BEGIN { n = split(names, name, " "); for (k = 1; k <= n; k++) wanted[name[k]] = 1 }
+    $1 in wanted { print; n = split($2, name, " "); for (k = 1; k <= n; k++) wanted[name[k]] = 1 }' | tac > "$work/clean/crates.txt"
+sed 's/:.*//' "$work/clean/crates.txt" | xargs -I CRATE cp -r crates/CRATE "$work/clean/crates"
 rm "$work/clean/crates/rules/specs/Samples.antt"
 sed -i '/pub mod Samples/d' "$work/clean/crates/rules/specs/Lib.antt"
 failed=0
-proving=$(sed -n 's|^refused: crates/\([a-z_]*\)/.*|\1|p' tests/theorem-edits/*.edit | sort -u)
 # shellcheck disable=SC2086 # one word a crate
 if ! (cd "$work/clean" && rt check $proving > "$work/log" 2>&1); then
     echo "theorem-edits: the copy without an edit is not proved"
