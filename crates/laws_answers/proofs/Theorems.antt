@@ -5,13 +5,12 @@ use mathlib.Core.Bool.{Bool, true, false, _||_}
 use mathlib.Core.List.{List, [], _∷_, _++_, map, map-map}
 use mathlib.Core.Logic.{_⊎_, inl, inr}
 use mathlib.Core.Path.{_≡_, refl, sym, ap, ap₂, _∙_}
-use lib.Dec.{ltb, eqb}
+use lib.Dec.{ltb}
 use lib.ListN.{length}
 use borrow.Author.Tests.{ltb-true, le-ltb, lt-ltb, le-leb, lt-leb}
-use Rattle.rules.specs.Bytes.{if_then_else_, isSpace, isWhite, span, value, integer, integers, perhapsInteger}
-use Rattle.rules.specs.Act.{Act, Cmd, just, word, pair}
-use Rattle.rules.specs.Letters.{named}
-use Rattle.rules.specs.Scan.{Cmds, letter, commands}
+use Rattle.rules.specs.Act.{Act, Cmd, just, word}
+use Rattle.rules.specs.Bytes.{if_then_else_}
+use Rattle.rules.specs.Scan.{Cmds, commands}
 use Rattle.rules.specs.Widths.{Widths, WidthList, unsound, sound, widthList}
 use Rattle.rules.specs.State.{corner, Env, start, Glyph, Item, Step, refused, went, steps}
 use Rattle.rules.specs.Record.{GlyphRow, Answer, refuse, answer, follow, seen}
@@ -37,7 +36,7 @@ use Rattle.laws_find.proofs.Asked.{query-shape, shape-some}
 use Rattle.laws_find.proofs.Written.{written-read, read-written, query-short, names-some}
 use Rattle.laws_scan.proofs.Fair.{commands-good}
 use Rattle.laws_scan.proofs.Names.{AllRows, RowIn, RowsOf, read-stands}
-use Rattle.laws_answers.specs.Statements.{Accepted, glyphsIn, rowsIn, itemsIn, pagesIn, endIn, glyphPaintIn, fillPaintIn, SameReading, ReadAgain, RoundTrip, FixedPoint, Exact, Exactness, Told, refusedAt, listed, told, cmdsOf, actsOf, houseText, OneSpelling, Answered, QueryText, OneByte, Roomy, Limits, ByOutline, single, ByAnyCommand, nameIn, NamesIn, NamesOf, NamesStand, Alike, Likeness}
+use Rattle.laws_answers.specs.Statements.{Accepted, glyphsIn, rowsIn, itemsIn, pagesIn, endIn, glyphPaintIn, fillPaintIn, SameReading, ReadAgain, RoundTrip, FixedPoint, Exact, Exactness, Told, refusedAt, listed, told, cmdsOf, actsOf, houseText, OneSpelling, Answered, QueryText, Roomy, Limits, ByOutline, single, ByAnyCommand, nameIn, NamesIn, NamesOf, NamesStand, Alike, Likeness}
 
 -- ---- an accepted stream
 
@@ -325,20 +324,8 @@ unfolding outline
 word-glyphs n [] cs = refl
 word-glyphs n (b ∷ bs) cs = ap (λ (l : List Sign). byteSign b ∷ l) (word-glyphs n bs cs)
 
-one-byte-by : (b : ℕ) (r : List ℕ) → isWhite b ≡ false → OneByte b r
-unfolding letter named integers integer perhapsInteger span value
-one-byte-by b r h =
-    let k : isSpace b ≡ false = or-left (isSpace b) (eqb b 10) h in
-    record {
-      by-c = rw (k, h);
-      by-C = rw (k, h);
-      by-t = rw (k, h);
-      by-u = rw (k, h);
-      by-digits = rw (k, h);
-    }
-
 pub byAnyCommand : ByAnyCommand
-byAnyCommand = record { one-byte = one-byte-by; by-outline = byOutline; swap = swap-outline; by-word = λ n b. refl; by-two-digits = λ n b. refl; word-by-glyphs = word-glyphs }
+byAnyCommand = record { by-outline = byOutline; swap = swap-outline; by-word = λ n b. refl; by-two-digits = λ n b. refl; word-by-glyphs = word-glyphs }
 
 -- ---- the list is exact
 

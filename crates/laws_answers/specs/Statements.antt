@@ -7,10 +7,9 @@ use mathlib.Core.Logic.{_⊎_}
 use mathlib.Core.Path.{_≡_}
 use lib.ListN.{length, take, drop}
 use Rattle.rules.specs.declared.Judging.the-variants as J
-use Rattle.rules.specs.Bytes.{isWhite, origin}
 use Rattle.rules.specs.Act.{Act, glyph, raw, Cmd, just, word, pair}
 use Rattle.rules.specs.House.{played, spelling, spellAll}
-use Rattle.rules.specs.Scan.{got, limits, command, commands, bare}
+use Rattle.rules.specs.Scan.{limits, commands, bare}
 use Rattle.rules.specs.Widths.{Widths, sound, widthList}
 use Rattle.rules.specs.State.{Spot, corner, Paint, noPaint, Env, Glyph, Item, start}
 use Rattle.rules.specs.Record.{GlyphRow, ItemRow, Answer, refuse, answer}
@@ -169,20 +168,11 @@ abbrev pub ByOutline : Type 0
 ByOutline = (s list s′ list′ : List ℕ) → Accepted s list → Accepted s′ list′ → outline (cmdsOf s) ≡ outline (cmdsOf s′)
     → (q : List ℕ) → told (find s list q) ≡ told (find s′ list′ q)
 
--- a one-byte name b by each of the five, in front of a newline: `cb`, `Cb`, `tb`, `u0 b`, `00b`
-pub record OneByte (b : ℕ) (r : List ℕ) : Type 0 where
-  pub by-c : command 99 (b ∷ 10 ∷ r) ≡ got (just (glyph (b ∷ []))) 1 2
-  pub by-C : command 67 (b ∷ 10 ∷ r) ≡ got (just (glyph (b ∷ []))) 1 2
-  pub by-t : command 116 (b ∷ 10 ∷ r) ≡ got (word origin (b ∷ [])) 1 2
-  pub by-u : command 117 (48 ∷ 32 ∷ b ∷ 10 ∷ r) ≡ got (word origin (b ∷ [])) 3 4
-  pub by-digits : command 48 (48 ∷ b ∷ 10 ∷ r) ≡ got (pair origin b) 2 3
-
 -- a command may stand for another of the same outline, anywhere; a word or two digits have the outline of single glyphs
 abbrev pub single : ℕ → Cmd
 single b = just (glyph (b ∷ []))
 
 pub record ByAnyCommand : Type 0 where
-  pub one-byte : (b : ℕ) (r : List ℕ) → isWhite b ≡ false → OneByte b r
   pub by-outline : ByOutline
   pub swap : (xs ys : List Cmd) (c c′ : Cmd) → signsOf c ≡ signsOf c′ → outline (xs ++ c ∷ ys) ≡ outline (xs ++ c′ ∷ ys)
   pub by-word : (n b : ℕ) → signsOf (word n (b ∷ [])) ≡ signsOf (single b)
