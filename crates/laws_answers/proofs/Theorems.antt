@@ -215,10 +215,6 @@ fixedPoint s list t h = again s list t h .same
 
 -- ---- the one spelling
 
-or-left : (a b : Bool) → (a || b) ≡ false → a ≡ false
-or-left true b h = h
-or-left false b h = refl
-
 spelled-or : (t : List ℕ) (a : Answer) → isAccepted a ≡ true → (spellIf t a ≡ spelled t) ⊎ ((spellIf t a ≡ notSpelled 13 0) × (streamMost < length t))
 spelled-or t (refuse n at) h = no h
 spelled-or t (answer rs xs e) h = on (isOver streamMost t) (λ k. rw k (inr (refl, ltb-true streamMost (length t) k))) (λ k. rw k (inl refl))
