@@ -91,7 +91,7 @@ a_record_too_many() { # PROGRAM WORDS-BEHIND-THE-STREAM...
     count "$program-a-record-too-many" "$said"
 }
 
-large_cases glyphs 'end 65536 65536 1 327680 0 d 0 0 0 0 d 0 0 0 0' widths
+large_cases glyphs 'end 65536 65536 1 655335 0 d 0 0 0 0 d 0 0 0 0' widths
 a_record_too_many glyphs widths
 large_cases find 'found 65536 65536' widths query
 a_record_too_many find widths query

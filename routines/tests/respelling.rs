@@ -167,7 +167,7 @@ fn spellings_by_hand() {
         (b"V6p2V0ca", "p 2/c a/x s/"),
         // drawings move, after a place of their own
         (b"h3Dl-5-3\nH-2V-3ca", "H 3/Dl -5 -3/c a/x s/"),
-        (b"D l 1 2#\nDc 4 5\nDe 6 7\nDt 8\ncaH11V2", "Dl 1 2/Dc 4/De 6 7/Dt 8/c a/x s/"),
+        (b"D l 1 2#\nDc 4 5\nDe 6 7\nDt 8\ncaH19V2", "Dl 1 2/Dc 4/De 6 7/Dt 8/c a/x s/"),
         (b"v1DFd\nm d DF k 1 02 3 0\nDf-1", "V 1/DFd/md/DFk 1 2 3 0/Df -1/x s/"),
         (b"D~1 2 3 4 5 6\nh1ca", "D~ 1 2 3 4 5 6/H 10/c a/x s/"),
         // controls

@@ -358,11 +358,12 @@ fn fill_of(n: i64, glyph_colour: Colour) -> Colour {
     }
 }
 
-/// The table of 01, "Drawing": the motion of a `D` command.
+/// The table of 01, "Drawing": the motion of a `D` command. `Dt` by 2026-02: "its argument is added to
+/// the horizontal position and the vertical one stays".
 pub fn drawing_motion(letter: u8, arguments: &[i64]) -> (i64, i64) {
     match letter {
-        b'c' | b'C' | b'e' | b'E' => (arguments[0], 0),
-        b't' | b'f' => (0, 0),
+        b'c' | b'C' | b'e' | b'E' | b't' => (arguments[0], 0),
+        b'f' => (0, 0),
         // `Dl`, `Da`, `Dp`, `DP`, `D~`: "+ sum of the odd-placed, + sum of the even-placed"
         _ => (arguments.iter().step_by(2).sum(), arguments.iter().skip(1).step_by(2).sum()),
     }

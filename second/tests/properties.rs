@@ -6,7 +6,7 @@ use second::generate::random::Random;
 use second::generate::stream::Manner;
 use second::generate::{case, sound_case, Case};
 use second::same::same_readings;
-use second::{find, read, respell, Reading, Record, Refusal, Rooms};
+use second::{find, read, respell, Entry, Reading, Record, Refusal, Rooms};
 
 /// Seeds for the counts of refusals, and for the other properties.
 const MANY_SEEDS: u64 = 100_000;
@@ -162,6 +162,72 @@ fn the_spelling_is_a_fixed_point() {
         let spelling = respell(&case.stream, &case.list, NO_LIMIT).unwrap();
         assert_eq!(respell(&spelling, &case.list, NO_LIMIT).as_ref(), Ok(&spelling), "seed {seed}");
     }
+}
+
+/// A spelling with `Dc` for every `Dt`.
+fn with_circles(spelling: &[u8]) -> Vec<u8> {
+    let lines = spelling.split_inclusive(|&byte| byte == b'\n');
+    let changed = lines.map(|line| match line.strip_prefix(b"Dt ") {
+        Some(number) => [b"Dc ", number].concat(),
+        None => line.to_vec(),
+    });
+    changed.collect::<Vec<_>>().concat()
+}
+
+/// 2026-02: `Dt` "is the motion of `Dc`": with the one for the other all stands where it stood.
+#[test]
+fn a_thickness_moves_as_a_circle() {
+    let mut count = 0;
+    for (seed, case, reading) in accepted(SEEDS) {
+        let spelling = respell(&case.stream, &case.list, NO_LIMIT).unwrap();
+        let circles = with_circles(&spelling);
+        if circles == spelling {
+            continue;
+        }
+        let other = read(&circles, &case.list, NO_LIMIT).unwrap();
+        let places = |reading: &Reading| -> Vec<(i32, i32)> {
+            let glyphs = reading.records.iter().map(|record| (record.h, record.v));
+            glyphs.chain(reading.entries.iter().map(|entry| (entry.h, entry.v))).collect()
+        };
+        assert_eq!(places(&other), places(&reading), "seed {seed}");
+        assert_eq!((other.h, other.v), (reading.h, reading.v), "seed {seed}");
+        count += 1;
+    }
+    println!("{count} streams");
+    assert!(count > 1_000);
+}
+
+/// The number of the `Dt` that an entry is of.
+fn thickness_of(stream: &[u8], entry: &Entry) -> Option<i32> {
+    let bytes = &stream[entry.place as usize..(entry.place + entry.length) as usize];
+    let number = bytes.split(|&byte| byte == b't').nth(1)?;
+    (entry.letters == *b"Dt\0").then(|| str::from_utf8(number).unwrap().trim().parse().unwrap())
+}
+
+/// Thicknesses come up to the limit of h, on both sides, and past it.
+#[test]
+fn thicknesses_come_to_the_limit() {
+    let (mut reach, mut pass) = ([0, 0], 0);
+    for seed in 0..MANY_SEEDS {
+        let Case { stream, list, .. } = case(seed);
+        match read(&stream, &list, NO_LIMIT) {
+            Ok(reading) => {
+                for entry in &reading.entries {
+                    let thickness = thickness_of(&stream, entry).filter(|&n| n != 0);
+                    let h = thickness.map_or(0, |n| entry.h + n);
+                    reach[0] += u32::from(h == 99_999_999);
+                    reach[1] += u32::from(h == -99_999_999);
+                }
+            }
+            Err(Refusal { number: 10, offset }) => {
+                let letters = stream[offset..].iter().filter(|byte| !b" \t".contains(byte));
+                pass += u32::from(letters.take(2).eq(b"Dt"));
+            }
+            Err(_) => {}
+        }
+    }
+    println!("reached {reach:?}, passed {pass}");
+    assert!(reach.iter().all(|&count| count > 20) && pass > 200);
 }
 
 /// A spelling has no freedom left: only its own commands, one a line, and no motion in vain.

@@ -34,10 +34,15 @@ fn sources_hold() {
     run_file("sources.vec", 24);
 }
 
+#[test]
+fn request_2026_02_holds() {
+    run_file("2026-02.vec", 28);
+}
+
 /// The name of a failure leads to one case.
 #[test]
 fn names_differ() {
-    let files = ["readings.vec", "scope.vec", "sources.vec"].map(vector_file);
+    let files = ["readings.vec", "scope.vec", "sources.vec", "2026-02.vec"].map(vector_file);
     let cases: Vec<_> = files.iter().flat_map(|text| parse(text).unwrap()).collect();
     let names: BTreeSet<&String> = cases.iter().map(|case| &case.name).collect();
     assert_eq!(names.len(), cases.len());

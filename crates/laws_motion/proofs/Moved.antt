@@ -176,7 +176,7 @@ drawing-goes solidEllipse ns h = ellipse-goes ns h
 drawing-goes polygon ns h = pairs-go ns h
 drawing-goes solidPolygon ns h = pairs-go ns h
 drawing-goes spline ns h = pairs-go ns h
-drawing-goes thickness ns h = (none-sums, none-sums)
+drawing-goes thickness ns h = circle-goes ns h
 drawing-goes grayFill ns h = (none-sums, none-sums)
 drawing-goes (colourFill c) ns h = (none-sums, none-sums)
 

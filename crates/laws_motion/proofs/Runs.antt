@@ -48,7 +48,7 @@ count-arguments solidEllipse ns h = h
 count-arguments polygon ns h = paired-even ns h
 count-arguments solidPolygon ns h = paired-even ns h
 count-arguments spline ns h = paired-even ns h
-count-arguments thickness ns h = tt
+count-arguments thickness ns h = h
 count-arguments grayFill ns h = tt
 count-arguments (colourFill c) ns h = tt
 

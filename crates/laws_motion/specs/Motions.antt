@@ -79,7 +79,7 @@ Arguments solidEllipse ns = length ns ≡ 2
 Arguments polygon ns = EvenCount ns  -- "2 to 64 integers, an even number"
 Arguments solidPolygon ns = EvenCount ns
 Arguments spline ns = EvenCount ns
-Arguments thickness ns = Unit {0}
+Arguments thickness ns = length ns ≡ 1  -- "n"
 Arguments grayFill ns = Unit {0}
 Arguments (colourFill c) ns = Unit {0}
 
@@ -94,8 +94,8 @@ drawnAcross solidEllipse zs = nth 1 zs
 drawnAcross polygon zs = sum (oddPlaced zs)  -- "+ sum of the odd-placed, + sum of the even-placed"
 drawnAcross solidPolygon zs = sum (oddPlaced zs)
 drawnAcross spline zs = sum (oddPlaced zs)
-drawnAcross thickness zs = pos 0  -- "none"
-drawnAcross grayFill zs = pos 0
+drawnAcross thickness zs = nth 1 zs  -- 2026-02: "its argument is added to the horizontal position and the vertical one stays"
+drawnAcross grayFill zs = pos 0  -- "none"
 drawnAcross (colourFill c) zs = pos 0
 
 -- and down

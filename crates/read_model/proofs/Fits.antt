@@ -82,7 +82,7 @@ module _ (at n q : ℕ) (z : Ends at n q) where
   draw-in polygon ns g = polygon-in polygon ns refl (g .0)
   draw-in solidPolygon ns g = polygon-in solidPolygon ns refl (g .0)
   draw-in spline ns g = polygon-in spline ns refl (g .0)
-  draw-in thickness ns g = (z, omega arith, omega arith, omega arith)
+  draw-in thickness ns g = first-in thickness ns refl (g .0)
   draw-in grayFill [] g = (z, omega arith)
   draw-in grayFill (i ∷ ns) g = (z, omega (arith, within-most (origin - 32767) (origin + 32767) i (and-left (isGray i) (allTrue (map isGray ns)) (g .0))))
   draw-in (colourFill c) ns g = z

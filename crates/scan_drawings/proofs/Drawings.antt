@@ -160,9 +160,9 @@ module _ (s : List ℕ) (at i : ℕ) where
           (ap (endedAt s at l) (judged s at arc 1 199999999 (omega arith) v ns ks refl))
 
   -- the thickness
-  one-is : oneDrawn 116 M.Still s at i ≡ placedOf at (closed (withAll (draw thickness) (ints s 1 i)))
+  one-is : oneDrawn 116 M.Across s at i ≡ placedOf at (closed (withAll (draw thickness) (ints s 1 i)))
   unfolding oneDrawn
-  one-is = one-are s at thickness i 1 199999999 (omega arith) (λ x l. movedBy 116 M.Still x origin l) (λ x l. (refl, refl))
+  one-is = one-are s at thickness i 1 199999999 (omega arith) (λ x l. movedBy 116 M.Across x origin l) (λ x l. (refl, rw (add-zero x)))
 
   gray-is : graySet s at i ≡ placedOf at (closed (withAll (draw grayFill) (ints s 1 i)))
   unfolding graySet

@@ -31,7 +31,7 @@ drawingIn solidEllipse = D.Two M.Across
 drawingIn polygon = D.Pairs
 drawingIn solidPolygon = D.Pairs
 drawingIn spline = D.Pairs
-drawingIn thickness = D.One M.Still
+drawingIn thickness = D.One M.Across
 drawingIn grayFill = D.Gray
 drawingIn (colourFill c) = D.Scheme
 

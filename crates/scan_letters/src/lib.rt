@@ -4,11 +4,10 @@
 ghost use mathlib.Core.Path.{_≡_};
 ghost use Rattle.scan_letters.specs.Selected.{byteOf, drawingOf, partsOf, controlOf};
 
-// The column "motion" of a drawing that has one number or two: +h, +v; +h, 0; none.
+// The column "motion" of a drawing that has one number or two: +h, +v; +h, 0.
 pub enum Motion {
     Both,
     Across,
-    Still,
 }
 
 // The column "arguments" of a drawing, with the motion where it is not that of all its pairs.
@@ -82,7 +81,7 @@ pub fn drawing_of(letter: u8) -> Drawing
         b'c' | b'C' => Drawing::Dummied(Motion::Across),
         b'e' | b'E' => Drawing::Two(Motion::Across),
         b'p' | b'P' | b'~' => Drawing::Pairs,
-        b't' => Drawing::One(Motion::Still),
+        b't' => Drawing::One(Motion::Across),
         b'f' => Drawing::Gray,
         b'F' => Drawing::Scheme,
         _ => Drawing::Unknown,

@@ -31,9 +31,6 @@ module _ (letter : ℕ) (m : Motion) (h v l : ℕ) where
   pub moved-across : m ≡ M.Across → K.Draw letter h 100000000 1 l ≡ movedBy letter m h v l
   moved-across e = rw e
 
-  pub moved-still : m ≡ M.Still → K.Draw letter 0 0 0 l ≡ movedBy letter m h v l
-  moved-still e = rw e
-
 module _ (s : List ℕ) (at i : ℕ) where
   module _ (letter : ℕ) (w : Motion) (q : Two) (g : q ≡ twoAt s i) where
     pub two-short : q ≡ B.Short → K.Refused 4 at ≡ twoDrawn letter w s at i
@@ -111,4 +108,4 @@ module _ (s : List ℕ) (at i : ℕ) where
     unfolding polygonDrawn
     pairs-read x y z l h r f = rw (f, ← g, h)
 
-pub ruleset shapes = (moved-both, moved-across, moved-still, one-short, one-read, dummy-short, dummy-absent, dummy-read, dummied-short, dummied-read, two-short, two-read, four-short, four-read, gray-short, gray-read, pairs-short, pairs-over, pairs-read, needs)
+pub ruleset shapes = (moved-both, moved-across, one-short, one-read, dummy-short, dummy-absent, dummy-read, dummied-short, dummied-read, two-short, two-read, four-short, four-read, gray-short, gray-read, pairs-short, pairs-over, pairs-read, needs)

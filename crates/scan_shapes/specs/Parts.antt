@@ -21,11 +21,10 @@ use Rattle.scan_arguments.specs.declared.Polygon.{Polygon}
 use Rattle.scan_arguments.specs.declared.Polygon.the-variants as G
 use Rattle.scan_close.specs.Closed.{withinOr, endedAt}
 
--- a drawing of a letter that has the numbers h and v, by the motion that its letter selects: "+h, +v", "+h, 0", "none"
+-- a drawing of a letter that has the numbers h and v, by the motion that its letter selects: "+h, +v", "+h, 0"
 abbrev pub movedBy : ℕ → Motion → ℕ → ℕ → ℕ → Command
 movedBy letter M.Both h v next = K.Draw letter h v 1 next
 movedBy letter M.Across h v next = K.Draw letter h origin 1 next
-movedBy letter M.Still h v next = K.Draw letter 0 0 0 next
 
 -- one integer within a limit p, and what it says with the place behind it
 abbrev pub oneArgument : (ℕ → Bool) → (ℕ → ℕ → Command) → List ℕ → ℕ → One → Command

@@ -37,13 +37,6 @@ fn moving(letter: u8, motion: Motion, h: u32, v: u32, next: usize) -> Command
             terms: 1,
             next,
         },
-        Motion::Still => Command::Draw {
-            letter: letter as u32,
-            dh: 0,
-            dv: 0,
-            terms: 0,
-            next,
-        },
     }
 }
 

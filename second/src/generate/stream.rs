@@ -141,7 +141,7 @@ impl<'a> Writer<'a> {
     ];
 
     /// Commands allowed behind it.
-    const LATE: [Maker<'a>; 36] = [
+    const LATE: [Maker<'a>; 37] = [
         Self::one_byte_glyph,
         Self::one_byte_glyph,
         Self::one_byte_glyph,
@@ -170,6 +170,7 @@ impl<'a> Writer<'a> {
         Self::line_break,
         Self::drawing,
         Self::drawing,
+        Self::thickness,
         Self::polygon,
         Self::circle,
         Self::fill,
@@ -492,9 +493,23 @@ impl<'a> Writer<'a> {
     }
 
     fn drawing(&mut self) -> Piece {
-        let (letter, count) = *self.random.pick(&[(b'l', 2), (b'a', 4), (b'e', 2), (b'E', 2), (b't', 1)]);
+        let (letter, count) = *self.random.pick(&[(b'l', 2), (b'a', 4), (b'e', 2), (b'E', 2)]);
         let numbers: Vec<i64> = (0..count).map(|_| self.distance()).collect();
         self.drawing_piece(letter, &numbers)
+    }
+
+    /// `Dt`; near the limits, from a place at most two short of one, up to it, past it or away from it.
+    fn thickness(&mut self) -> Piece {
+        if !self.manner.edges {
+            let distance = self.distance();
+            return self.drawing_piece(b't', &[distance]);
+        }
+        let side = *self.random.pick(&[1, -1]);
+        let place = side * self.random.between(99_999_997, 99_999_999);
+        let step = side * self.random.between(-3, 3);
+        let motion = self.integer_piece(b'H', &[place]).bytes;
+        let thickness = self.drawing_piece(b't', &[step]);
+        Piece::new([motion, thickness.bytes].concat(), thickness.end)
     }
 
     fn polygon(&mut self) -> Piece {
