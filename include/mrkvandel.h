@@ -70,8 +70,8 @@ enum {
     MRKVANDEL_NO_FONT = 8,
     /* no width for a byte of `t` or `u` */
     MRKVANDEL_NO_WIDTH = 9,
-    /* h or v beyond 99,999,999 either way after a command, or after any glyph of a word (`Dp` and the like: at the end
-       only) */
+    /* h or v beyond 99,999,999 either way after a command (`Dt` moves too, by its number across), or after any glyph of a word (`Dp`
+       and the like: at the end only) */
     MRKVANDEL_OUT_OF_REACH = 10,
     /* no `x s`; offset: the length of the stream */
     MRKVANDEL_NO_STOP = 11,

@@ -105,12 +105,11 @@ fn shades(colour: &Colour) -> [u64; 5] {
     [colour.scheme.into(), a, b, c, d]
 }
 
-/// The letter, the motion by 01's table, and the number of pairs that it is the sum of: each number
-/// of a sum is moved up.
+/// The letter, the motion by 01's table and 2026-02, and the number of pairs that it is the sum of:
+/// each number of a sum is moved up.
 fn drawing(letter: u8, arguments: &[i64]) -> [u64; 4] {
     let pairs = match letter {
-        b'c' | b'C' | b'e' | b'E' => 1,
-        b't' => 0,
+        b'c' | b'C' | b'e' | b'E' | b't' => 1,
         _ => arguments.len() as i64 / 2,
     };
     let (h, v) = drawing_motion(letter, arguments);

@@ -36,7 +36,7 @@ fn sources_hold() {
 
 #[test]
 fn request_2026_02_holds() {
-    run_file("2026-02.vec", 28);
+    run_file("2026-02.vec", 33);
 }
 
 /// The name of a failure leads to one case.

@@ -277,7 +277,7 @@ EntriesInPlace = (s list : List ℕ) (rs : List Record) (es : List Entry) (r : R
     → map stretch (take (length xs) es′) ≡ entryPlaces s (a .commands) (a .consists) 0
 
 -- "the name, page, place, font and size 01 gives it": what each command does is what 01 says, in integers (`laws_motion`: Motions.antt,
--- Records.antt and Needs.antt have 01's tables once more, apart from the rules that `Allowed` goes by)
+-- Records.antt and Needs.antt have 01's tables once more, as 02 has changed them, apart from the rules that `Allowed` goes by)
 pub record As01Gives : Type 0 where
   -- numbers; motions and where they are refused; the advance; words and two digits; and that all this holds in every run
   pub numbers : NumberTexts

@@ -493,7 +493,7 @@ impl<'a> Writer<'a> {
     }
 
     fn drawing(&mut self) -> Piece {
-        let (letter, count) = *self.random.pick(&[(b'l', 2), (b'a', 4), (b'e', 2), (b'E', 2)]);
+        let (letter, count) = *self.random.pick(&[(b'l', 2), (b'a', 4), (b'e', 2), (b'E', 2), (b't', 1)]);
         let numbers: Vec<i64> = (0..count).map(|_| self.distance()).collect();
         self.drawing_piece(letter, &numbers)
     }
