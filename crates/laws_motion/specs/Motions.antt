@@ -1,7 +1,7 @@
 -- Document 01, motions over the integers: of every command that moves, the place afterwards is the place before plus the numbers that the
 -- command has, each as the integer that its text says, so that nobody has to believe the numbers that are moved up. `hBehind` and
--- `vBehind` are 01's tables again, as 02 has changed them, apart from those of the rules (`wayOf`, `plus`, `plusAll`). Proofs: `Moved` and `Worded`. That
--- what they ask for holds in every run: `Runs`.
+-- `vBehind` are 01's tables again, as 02 has changed them, apart from those of the rules (`wayOf`, `plus`, `plusAll`). Proofs: `Moved` and
+-- `Worded`. That what they ask for holds in every run: `Runs`.
 use Prim.Native.Nat.{ℕ, _+_, _*_, _-_, _<_, _≤_}
 use mathlib.Core.Bool.{true}
 use mathlib.Core.List.{List, [], _∷_, map}
