@@ -7,7 +7,7 @@ use common::json::{objects, Json};
 use common::{note, Folder, Ran};
 use second::print::{line_and_column, refusal_text};
 use second::refusal::{LIST_LIMIT, QUERY_LIMIT, STREAM_LIMIT};
-use second::vectors::{all_cases, Case, Program, Second};
+use second::vectors::{all_cases, Case, Program, Second, LEAST_CASES};
 use second::{Refusal, Rooms};
 use std::collections::BTreeMap;
 use std::sync::{LazyLock, OnceLock};
@@ -64,7 +64,7 @@ fn query(case: &Case) -> &[u8] {
 
 static CASES: LazyLock<Vec<Case>> = LazyLock::new(|| {
     let cases = all_cases().expect("the vectors can be read");
-    assert!(cases.len() >= 999, "{} vectors", cases.len());
+    assert!(cases.len() >= LEAST_CASES, "{} vectors", cases.len());
     cases
 });
 

@@ -108,10 +108,8 @@ fn shades(colour: &Colour) -> [u64; 5] {
 /// The letter, the motion by 01's table and 2026-02, and the number of pairs that it is the sum of:
 /// each number of a sum is moved up.
 fn drawing(letter: u8, arguments: &[i64]) -> [u64; 4] {
-    let pairs = match letter {
-        b'c' | b'C' | b'e' | b'E' | b't' => 1,
-        _ => arguments.len() as i64 / 2,
-    };
+    // one number, as of `Dc` and `Dt`, is a pair with 0
+    let pairs = arguments.len().div_ceil(2) as i64;
     let (h, v) = drawing_motion(letter, arguments);
     let lifted = |sum: i64| (sum + pairs * MOVED_UP) as u64;
     [letter.into(), lifted(h), lifted(v), pairs as u64]

@@ -41,7 +41,7 @@ fn vectors_agree_on_commands() {
     let mut seen = Seen::default();
     let cases = vector_cases();
     cases.iter().for_each(|case| agree::places(&case.stream, &mut seen));
-    assert!(cases.len() >= 999, "{} vectors", cases.len());
+    assert!(cases.len() >= vectors::LEAST_CASES, "{} vectors", cases.len());
     say(format!("vectors: {} streams, {} places", cases.len(), seen.all()));
     assert_all_seen("vectors, commands", &seen, 5);
 }

@@ -101,7 +101,7 @@ impl Runner {
 pub fn compare_vectors(name: &str, compare: Compare) -> Seen {
     let (runner, mut seen) = (Runner::new(name, "vectors"), Seen::default());
     let cases = vectors::all_cases().expect("the vectors can be read");
-    assert!(cases.len() >= 999, "{} vectors", cases.len());
+    assert!(cases.len() >= vectors::LEAST_CASES, "{} vectors", cases.len());
     for case in &cases {
         compare(&runner, &case.name, &case.stream, &case.list, &mut seen);
     }

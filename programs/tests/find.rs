@@ -64,7 +64,7 @@ impl Finder {
 fn vectors_agree() {
     let mut finder = Finder::new("vectors");
     let cases = vectors::all_cases().expect("the vectors can be read");
-    assert!(cases.len() >= 999, "{} vectors", cases.len());
+    assert!(cases.len() >= vectors::LEAST_CASES, "{} vectors", cases.len());
     for case in &cases {
         let query = case.query.as_deref().unwrap_or(b"glyph=a\n");
         finder.compare(&case.name, &case.stream, &case.list, query);

@@ -27,7 +27,7 @@ fn vectors_hold() {
     assert!(failures.is_empty(), "{} cases fail\n{}", failures.len(), failures.join("\n"));
     let checks: usize = cases.iter().map(|case| case.checks.len()).sum();
     say(&format!("vectors: {} cases, {checks} checks", cases.len()));
-    assert!(cases.len() >= 999 && checks >= 1_700, "vectors are missing");
+    assert!(cases.len() >= vectors::LEAST_CASES && checks >= 1_700, "vectors are missing");
 }
 
 /// Every vector's stream, with rows of every measure.

@@ -1,12 +1,13 @@
 //! What must hold of every input, tried on generated ones.
 
+use second::command::{scan, Command};
 use second::find::{read_query, QueryGlyph};
 use second::generate::outline::{outline, write_outline, OUTLINE_LIST};
 use second::generate::random::Random;
 use second::generate::stream::Manner;
 use second::generate::{case, sound_case, Case};
 use second::same::same_readings;
-use second::{find, read, respell, Entry, Reading, Record, Refusal, Rooms};
+use second::{find, read, respell, Reading, Record, Refusal, Rooms};
 
 /// Seeds for the counts of refusals, and for the other properties.
 const MANY_SEEDS: u64 = 100_000;
@@ -197,11 +198,12 @@ fn a_thickness_moves_as_a_circle() {
     assert!(count > 1_000);
 }
 
-/// The number of the `Dt` that an entry is of.
-fn thickness_of(stream: &[u8], entry: &Entry) -> Option<i32> {
-    let bytes = &stream[entry.place as usize..(entry.place + entry.length) as usize];
-    let number = bytes.split(|&byte| byte == b't').nth(1)?;
-    (entry.letters == *b"Dt\0").then(|| str::from_utf8(number).unwrap().trim().parse().unwrap())
+/// The number of the `Dt` at a place.
+fn thickness_at(stream: &[u8], place: usize) -> Option<i64> {
+    match scan(stream, place).ok()?.command {
+        Command::Drawing { letter: b't', arguments } => Some(arguments[0]),
+        _ => None,
+    }
 }
 
 /// Thicknesses come up to the limit of h, on both sides, and past it.
@@ -213,16 +215,15 @@ fn thicknesses_come_to_the_limit() {
         match read(&stream, &list, NO_LIMIT) {
             Ok(reading) => {
                 for entry in &reading.entries {
-                    let thickness = thickness_of(&stream, entry).filter(|&n| n != 0);
-                    let h = thickness.map_or(0, |n| entry.h + n);
+                    let thickness = thickness_at(&stream, entry.place as usize).filter(|&n| n != 0);
+                    let h = thickness.map_or(0, |n| i64::from(entry.h) + n);
                     reach[0] += u32::from(h == 99_999_999);
                     reach[1] += u32::from(h == -99_999_999);
                 }
             }
             Err(Refusal { number: 10, offset }) => {
-                let mut bytes = stream[offset..].iter().filter(|byte| !b" \t".contains(byte));
-                if bytes.by_ref().take(2).eq(b"Dt") {
-                    pass[usize::from(bytes.next() == Some(&b'-'))] += 1;
+                if let Some(n) = thickness_at(&stream, offset) {
+                    pass[usize::from(n < 0)] += 1;
                 }
             }
             Err(_) => {}

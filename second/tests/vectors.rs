@@ -1,6 +1,6 @@
 //! Every vector file, run against the second program.
 
-use second::vectors::{parse, run_all, unescape, Second};
+use second::vectors::{all_cases, run_all, unescape, Second, LEAST_CASES};
 use std::collections::BTreeSet;
 
 fn vector_file(name: &str) -> String {
@@ -42,8 +42,8 @@ fn request_2026_02_holds() {
 /// The name of a failure leads to one case.
 #[test]
 fn names_differ() {
-    let files = ["readings.vec", "scope.vec", "sources.vec", "2026-02.vec"].map(vector_file);
-    let cases: Vec<_> = files.iter().flat_map(|text| parse(text).unwrap()).collect();
+    let cases = all_cases().unwrap();
+    assert!(cases.len() >= LEAST_CASES, "{} vectors", cases.len());
     let names: BTreeSet<&String> = cases.iter().map(|case| &case.name).collect();
     assert_eq!(names.len(), cases.len());
 }
