@@ -23,17 +23,16 @@
 //! | 18, 22, 23 | `x i`; `x X`; `x s` | none |
 //! | 20 | `x f` | the position; the name's place and length |
 //! | 21 | `x p` `x t` `x H` `x S` `x u` | its letter |
-//! | 24 | refused | 3, 4, 5 or 6; the place: the command's, for 6 that of the argument outside its limit |
+//! | 24 | refused | 3, 4, 5 or 6; the place: the command's, for 6 that of the argument outside its limit (2026-12) |
 //!
 //! Case 0: no byte stands at the place; the list or query is too long (refusal 1).
 
-use crate::argument::outside;
 use crate::Code;
 use second::bytes::{is_whitespace, Name};
 use second::command::{scan, Colour, Command};
 use second::find::read_query;
 use second::read::drawing_motion;
-use second::refusal::{LIST_LIMIT, OUTSIDE_LIMIT, QUERY_LIMIT, UNKNOWN};
+use second::refusal::{LIST_LIMIT, QUERY_LIMIT, UNKNOWN};
 use second::widths::read_list;
 
 const MOVED_UP: i64 = 100_000_000;
@@ -53,8 +52,7 @@ pub fn command(stream: &[u8], at: usize) -> Code {
     }
     match scan(stream, at) {
         Ok(scanned) => accepted(&scanned.command, scanned.end as u64),
-        Err(OUTSIDE_LIMIT) => refused(OUTSIDE_LIMIT, outside(stream, at)),
-        Err(number) => refused(number, at),
+        Err(refusal) => refused(refusal.number, refusal.offset),
     }
 }
 

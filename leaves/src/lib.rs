@@ -3,7 +3,6 @@
 //! both answer the same numbers, a `Code`.
 
 pub mod agree;
-pub mod argument;
 pub mod expected;
 pub mod inputs;
 pub mod proved;

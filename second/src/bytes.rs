@@ -115,10 +115,6 @@ impl<'a> Cursor<'a> {
         Ok(if negative { -magnitude } else { magnitude })
     }
 
-    pub fn integers(&mut self, count: usize) -> Result<Vec<i64>, u8> {
-        (0..count).map(|_| self.integer()).collect()
-    }
-
     /// Whether a line break, "perhaps after a comment", stands behind a spacer. The cursor stays.
     pub fn line_break_stands(&self) -> bool {
         let mut ahead = Cursor::new(self.bytes, self.at);

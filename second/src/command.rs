@@ -2,16 +2,29 @@
 //! refusals that its form alone decides (3, 4, 5 and 6, the smallest first).
 
 use crate::bytes::{line_end, Cursor, Name, NAME_LIMIT, NUMBER_LIMIT};
-use crate::refusal::{require, MALFORMED, OUTSIDE_LIMIT, SURPLUS, UNKNOWN};
+use crate::refusal::{at, require, Refusal, MALFORMED, OUTSIDE_LIMIT, SURPLUS, UNKNOWN};
+use std::ops::RangeInclusive;
 
 /// "The text has at most 4,096 bytes, added newlines counted."
 pub const TEXT_LIMIT: usize = 4096;
 /// "2 to 64 integers, an even number".
 pub const POLYGON_LIMIT: usize = 64;
-/// "font position 0..255".
-pub const POSITION_LIMIT: i64 = 255;
+
+/// The numbers that an integer argument may have.
+type Limit = RangeInclusive<i64>;
+
+/// "Its magnitude is at most 99,999,999."
+const GENERAL: Limit = -NUMBER_LIMIT..=NUMBER_LIMIT;
+/// "font position 0..255"; "mount at 0..255".
+const POSITION: Limit = 0..=255;
+/// "size 1..99,999,999"; `x r`: "each at least 1".
+const AT_LEAST_1: Limit = 1..=NUMBER_LIMIT;
 /// "components 0..65536".
-pub const COMPONENT_LIMIT: i64 = 65_536;
+const COMPONENT: Limit = 0..=65_536;
+/// "`Df` n, -32767..32767".
+const FILL: Limit = -32_767..=32_767;
+/// "`u` n (0 or 1)".
+const SWITCH: Limit = 0..=1;
 
 /// "a scheme with four components, unused ones 0".
 #[derive(Clone, Copy, Debug, PartialEq, Eq)]
@@ -75,102 +88,213 @@ pub struct Scanned {
     pub end: usize,
 }
 
-/// Scans the command whose first byte stands at `at`; a refusal's offset is `at`.
-pub fn scan(stream: &[u8], at: usize) -> Result<Scanned, u8> {
-    let mut cursor = Cursor::new(stream, at);
-    let command = scan_command(&mut cursor)?;
-    Ok(Scanned { command, end: cursor.at })
+/// Scans the command whose first byte stands at `place`. 3, 4 and 5 have that offset. 6, by 2026-12,
+/// has "the first byte of the argument outside its limit"; it is judged when the whole form is, as
+/// "at one command the smallest number" is given.
+pub fn scan(stream: &[u8], place: usize) -> Result<Scanned, Refusal> {
+    let mut scanner = Scanner { cursor: Cursor::new(stream, place), outside: None };
+    let command = scanner.command().map_err(at(place))?;
+    match scanner.outside {
+        Some(offset) => Err(Refusal { number: OUTSIDE_LIMIT, offset }),
+        None => Ok(Scanned { command, end: scanner.cursor.at }),
+    }
 }
 
-fn scan_command(cursor: &mut Cursor) -> Result<Command, u8> {
-    let letter = cursor.byte().ok_or(UNKNOWN)?;
-    match letter {
-        b'c' => Ok(Command::Glyph(glyph_byte(cursor)?)),
-        b'C' => Ok(Command::Glyph(limited_name(cursor)?)),
-        b'N' => Ok(Command::Index(integer_within(cursor, -NUMBER_LIMIT, NUMBER_LIMIT)?)),
-        b't' => scan_word(cursor, 0),
-        b'u' => scan_tracked_word(cursor),
-        b'0'..=b'9' => scan_pair(cursor, letter),
-        b'H' | b'h' | b'V' | b'v' => {
-            let number = integer_within(cursor, -NUMBER_LIMIT, NUMBER_LIMIT)?;
-            Ok(Command::Motion { letter, number })
+/// The scan of one command. Its functions answer 3, 4 or 5, or what they read, even where that is
+/// outside its limit: then `outside` says where, and the command is not handed out.
+struct Scanner<'a> {
+    cursor: Cursor<'a>,
+    /// the first byte of the first argument outside its limit
+    outside: Option<usize>,
+}
+
+impl Scanner<'_> {
+    fn command(&mut self) -> Result<Command, u8> {
+        let letter = self.cursor.byte().ok_or(UNKNOWN)?;
+        match letter {
+            b'c' => Ok(Command::Glyph(self.glyph_byte()?)),
+            b'C' => Ok(Command::Glyph(self.name()?)),
+            b'N' => Ok(Command::Index(self.integer(GENERAL)?)),
+            b't' => self.word(0),
+            b'u' => self.tracked_word(),
+            b'0'..=b'9' => self.pair(letter),
+            b'H' | b'h' | b'V' | b'v' => Ok(Command::Motion { letter, number: self.integer(GENERAL)? }),
+            b'p' => Ok(Command::Page(self.integer(GENERAL)?)),
+            b'f' => Ok(Command::Font(self.integer(POSITION)?)),
+            b's' => Ok(Command::Size(self.integer(AT_LEAST_1)?)),
+            b'm' => Ok(Command::GlyphColour(self.colour()?)),
+            b'n' => self.line_break(),
+            b'w' => Ok(Command::WordSpace),
+            b'D' => self.drawing(),
+            b'x' => self.control(),
+            _ => Err(UNKNOWN),
         }
-        b'p' => Ok(Command::Page(integer_within(cursor, -NUMBER_LIMIT, NUMBER_LIMIT)?)),
-        b'f' => Ok(Command::Font(integer_within(cursor, 0, POSITION_LIMIT)?)),
-        b's' => Ok(Command::Size(integer_within(cursor, 1, NUMBER_LIMIT)?)),
-        b'm' => scan_glyph_colour(cursor),
-        b'n' => scan_line_break(cursor),
-        b'w' => Ok(Command::WordSpace),
-        b'D' => scan_drawing(cursor),
-        b'x' => scan_control(cursor),
-        _ => Err(UNKNOWN),
     }
-}
 
-fn check_within(numbers: &[i64], low: i64, high: i64) -> Result<(), u8> {
-    let fits = numbers.iter().all(|&number| low <= number && number <= high);
-    require(fits, OUTSIDE_LIMIT)
-}
-
-fn check_general(numbers: &[i64]) -> Result<(), u8> {
-    check_within(numbers, -NUMBER_LIMIT, NUMBER_LIMIT)
-}
-
-/// The single integer argument of a command of one letter.
-fn integer_within(cursor: &mut Cursor, low: i64, high: i64) -> Result<i64, u8> {
-    let number = cursor.integer()?;
-    check_within(&[number], low, high)?;
-    Ok(number)
-}
-
-fn check_name(name: Name) -> Result<(), u8> {
-    require(name.length <= NAME_LIMIT, OUTSIDE_LIMIT)
-}
-
-fn limited_name(cursor: &mut Cursor) -> Result<Name, u8> {
-    let name = cursor.string()?;
-    check_name(name)?;
-    Ok(name)
-}
-
-/// `c` g: "glyph of one byte".
-fn glyph_byte(cursor: &mut Cursor) -> Result<Name, u8> {
-    cursor.byte().ok_or(MALFORMED)?;
-    Ok(Name { place: cursor.at - 1, length: 1 })
-}
-
-/// `u` n word.
-fn scan_tracked_word(cursor: &mut Cursor) -> Result<Command, u8> {
-    let track = cursor.integer()?;
-    let command = scan_word(cursor, track)?;
-    check_general(&[track])?;
-    Ok(command)
-}
-
-/// "After a `t` or `u` word, a spacer and then a digit or `-` is a dummy integer. It is ignored,
-/// and must be followed by whitespace or end, else 4."
-fn scan_word(cursor: &mut Cursor, track: i64) -> Result<Command, u8> {
-    let word = cursor.string()?;
-    if cursor.integer_stands() {
-        let dummy = cursor.integer()?;
-        require(cursor.string_ends(), MALFORMED)?;
-        check_general(&[dummy])?;
+    /// Judges the argument whose first byte stands at `place`. 2026-12: "where several are
+    /// [outside], the first of them"; arguments are judged in the order of the stream.
+    fn judge(&mut self, place: usize, is_within: bool) {
+        if !is_within {
+            self.outside.get_or_insert(place);
+        }
     }
-    Ok(Command::Word { track, word })
-}
 
-/// "One digit without a second, or two without a glyph, is 4"; "spacers may stand within".
-fn scan_pair(cursor: &mut Cursor, first: u8) -> Result<Command, u8> {
-    let second = cursor.byte().filter(u8::is_ascii_digit).ok_or(MALFORMED)?;
-    let motion = i64::from(first - b'0') * 10 + i64::from(second - b'0');
-    Ok(Command::Pair { motion, glyph: glyph_byte(cursor)? })
-}
+    /// Where the next argument begins: "a spacer may precede each".
+    fn argument_place(&mut self) -> usize {
+        self.cursor.skip_spacer();
+        self.cursor.at
+    }
 
-/// `n` b a: "line break, no motion, numbers ignored".
-fn scan_line_break(cursor: &mut Cursor) -> Result<Command, u8> {
-    let numbers = cursor.integers(2)?;
-    check_general(&numbers)?;
-    Ok(Command::LineBreak)
+    /// An integer argument; it begins with its sign or first digit.
+    fn integer(&mut self, limit: Limit) -> Result<i64, u8> {
+        let place = self.argument_place();
+        let number = self.cursor.integer()?;
+        self.judge(place, limit.contains(&number));
+        Ok(number)
+    }
+
+    fn integers(&mut self, count: usize, limit: Limit) -> Result<Vec<i64>, u8> {
+        (0..count).map(|_| self.integer(limit.clone())).collect()
+    }
+
+    /// "Names have at most 64 bytes".
+    fn name(&mut self) -> Result<Name, u8> {
+        let name = self.cursor.string()?;
+        self.judge(name.place, name.length <= NAME_LIMIT);
+        Ok(name)
+    }
+
+    /// `c` g: "glyph of one byte".
+    fn glyph_byte(&mut self) -> Result<Name, u8> {
+        self.cursor.byte().ok_or(MALFORMED)?;
+        Ok(Name { place: self.cursor.at - 1, length: 1 })
+    }
+
+    /// `u` n word.
+    fn tracked_word(&mut self) -> Result<Command, u8> {
+        let track = self.integer(GENERAL)?;
+        self.word(track)
+    }
+
+    /// "a t or u word has no such limit". "After a `t` or `u` word, a spacer and then a digit or `-`
+    /// is a dummy integer. It is ignored, and must be followed by whitespace or end, else 4."
+    /// 2026-12: "the argument outside its limit, a dummy too".
+    fn word(&mut self, track: i64) -> Result<Command, u8> {
+        let word = self.cursor.string()?;
+        if self.cursor.integer_stands() {
+            self.integer(GENERAL)?;
+            require(self.cursor.string_ends(), MALFORMED)?;
+        }
+        Ok(Command::Word { track, word })
+    }
+
+    /// "One digit without a second, or two without a glyph, is 4"; "spacers may stand within".
+    fn pair(&mut self, first: u8) -> Result<Command, u8> {
+        let second = self.cursor.byte().filter(u8::is_ascii_digit).ok_or(MALFORMED)?;
+        let motion = i64::from(first - b'0') * 10 + i64::from(second - b'0');
+        Ok(Command::Pair { motion, glyph: self.glyph_byte()? })
+    }
+
+    /// `n` b a: "line break, no motion, numbers ignored".
+    fn line_break(&mut self) -> Result<Command, u8> {
+        self.integers(2, GENERAL)?;
+        Ok(Command::LineBreak)
+    }
+
+    /// A scheme letter and "that many components 0..65536", the unused ones 0.
+    fn colour(&mut self) -> Result<Colour, u8> {
+        let scheme = self.cursor.byte().ok_or(UNKNOWN)?;
+        let count = component_count(scheme).ok_or(UNKNOWN)?;
+        let mut components = [0; 4];
+        for component in &mut components[..count] {
+            *component = self.integer(COMPONENT)? as u32;
+        }
+        Ok(Colour { scheme, components })
+    }
+
+    /// "`D` and its letter need a line break, perhaps after a comment, behind the last argument",
+    /// else 5.
+    fn require_line_break(&self) -> Result<(), u8> {
+        require(self.cursor.line_break_stands(), SURPLUS)
+    }
+
+    fn drawing(&mut self) -> Result<Command, u8> {
+        let letter = self.cursor.byte().ok_or(UNKNOWN)?;
+        if letter == b'F' {
+            return self.fill_colour();
+        }
+        let arguments = match letter {
+            b'l' | b'e' | b'E' => self.integers(2, GENERAL)?,
+            b'a' => self.integers(4, GENERAL)?,
+            b't' => self.integers(1, GENERAL)?,
+            b'f' => self.integers(1, FILL)?,
+            b'c' | b'C' => self.circle()?,
+            b'p' | b'P' | b'~' => self.polygon()?,
+            _ => return Err(UNKNOWN),
+        };
+        self.require_line_break()?;
+        Ok(Command::Drawing { letter, arguments })
+    }
+
+    fn fill_colour(&mut self) -> Result<Command, u8> {
+        let colour = self.colour()?;
+        self.require_line_break()?;
+        Ok(Command::FillColour(colour))
+    }
+
+    /// `Dc`, `DC`: "d, optional dummy".
+    fn circle(&mut self) -> Result<Vec<i64>, u8> {
+        let arguments = self.integers(1, GENERAL)?;
+        if self.cursor.integer_stands() {
+            self.integer(GENERAL)?;
+        }
+        Ok(arguments)
+    }
+
+    /// `Dp`, `DP`, `D~`: "any other byte ends the arguments"; "none or an odd number" is 4.
+    /// 2026-12: "arguments over the allowed count are outside it".
+    fn polygon(&mut self) -> Result<Vec<i64>, u8> {
+        let mut arguments = Vec::new();
+        while self.cursor.integer_stands() {
+            let place = self.argument_place();
+            arguments.push(self.integer(GENERAL)?);
+            self.judge(place, arguments.len() <= POLYGON_LIMIT);
+        }
+        require(!arguments.is_empty() && arguments.len() % 2 == 0, MALFORMED)?;
+        Ok(arguments)
+    }
+
+    /// "`x`, a spacer, then a word of any length; its first byte decides and the rest is ignored."
+    fn control(&mut self) -> Result<Command, u8> {
+        let word = self.cursor.string().map_err(|_| UNKNOWN)?;
+        let letter = self.cursor.bytes[word.place];
+        if letter == b'X' {
+            return Ok(self.text());
+        }
+        let form = control_form(letter).ok_or(UNKNOWN)?;
+        let numbers = self.integers(form.count, form.limit)?;
+        let name = if form.named { Some(self.name()?) } else { None };
+        self.require_line_break()?;
+        Ok(Command::Control { letter, numbers, name })
+    }
+
+    /// "`X`: after a spacer, the rest of the line raw, without comments; each next line that starts
+    /// with `+` adds a newline and its rest." 2026-12: "A text begins right after its spacer, even
+    /// with an empty line."
+    fn text(&mut self) -> Command {
+        let place = self.argument_place();
+        let cursor = &mut self.cursor;
+        cursor.at = line_end(cursor.bytes, place);
+        let first_line = Name { place, length: cursor.at - place };
+        let mut length = first_line.length;
+        while cursor.bytes[cursor.at..].starts_with(b"\n+") {
+            let rest = cursor.at + 2;
+            cursor.at = line_end(cursor.bytes, rest);
+            length += 1 + (cursor.at - rest);
+        }
+        self.judge(place, length <= TEXT_LIMIT);
+        Command::Text { first_line }
+    }
 }
 
 /// "`mc` 3, `md` 0, `mg` 1, `mk` 4, `mr` 3".
@@ -184,136 +308,22 @@ pub fn component_count(scheme: u8) -> Option<usize> {
     }
 }
 
-/// A scheme letter and its components, whose limit is still to be checked.
-fn scan_components(cursor: &mut Cursor) -> Result<(u8, Vec<i64>), u8> {
-    let scheme = cursor.byte().ok_or(UNKNOWN)?;
-    let count = component_count(scheme).ok_or(UNKNOWN)?;
-    Ok((scheme, cursor.integers(count)?))
-}
-
-/// "that many components 0..65536", the unused ones 0.
-fn colour_of(scheme: u8, numbers: &[i64]) -> Result<Colour, u8> {
-    check_within(numbers, 0, COMPONENT_LIMIT)?;
-    let mut components = [0; 4];
-    for (component, &number) in components.iter_mut().zip(numbers) {
-        *component = number as u32;
-    }
-    Ok(Colour { scheme, components })
-}
-
-fn scan_glyph_colour(cursor: &mut Cursor) -> Result<Command, u8> {
-    let (scheme, numbers) = scan_components(cursor)?;
-    Ok(Command::GlyphColour(colour_of(scheme, &numbers)?))
-}
-
-/// "`D` and its letter need a line break, perhaps after a comment, behind the last argument",
-/// else 5; the limits (6) are judged after that.
-fn check_line_break(cursor: &Cursor) -> Result<(), u8> {
-    require(cursor.line_break_stands(), SURPLUS)
-}
-
-fn scan_drawing(cursor: &mut Cursor) -> Result<Command, u8> {
-    let letter = cursor.byte().ok_or(UNKNOWN)?;
-    match letter {
-        b'l' | b'e' | b'E' => scan_fixed_drawing(cursor, letter, 2, NUMBER_LIMIT),
-        b'a' => scan_fixed_drawing(cursor, letter, 4, NUMBER_LIMIT),
-        b't' => scan_fixed_drawing(cursor, letter, 1, NUMBER_LIMIT),
-        b'f' => scan_fixed_drawing(cursor, letter, 1, 32_767),
-        b'c' | b'C' => scan_circle(cursor, letter),
-        b'p' | b'P' | b'~' => scan_polygon(cursor, letter),
-        b'F' => scan_fill_colour(cursor),
-        _ => Err(UNKNOWN),
-    }
-}
-
-fn scan_fixed_drawing(cursor: &mut Cursor, letter: u8, count: usize, limit: i64) -> Result<Command, u8> {
-    let arguments = cursor.integers(count)?;
-    check_line_break(cursor)?;
-    check_within(&arguments, -limit, limit)?;
-    Ok(Command::Drawing { letter, arguments })
-}
-
-/// `Dc`, `DC`: "d, optional dummy".
-fn scan_circle(cursor: &mut Cursor, letter: u8) -> Result<Command, u8> {
-    let mut arguments = cursor.integers(1)?;
-    if cursor.integer_stands() {
-        arguments.push(cursor.integer()?);
-    }
-    check_line_break(cursor)?;
-    check_general(&arguments)?;
-    arguments.truncate(1);
-    Ok(Command::Drawing { letter, arguments })
-}
-
-/// `Dp`, `DP`, `D~`: "any other byte ends the arguments"; "none or an odd number" is 4.
-fn scan_polygon(cursor: &mut Cursor, letter: u8) -> Result<Command, u8> {
-    let mut arguments = Vec::new();
-    while cursor.integer_stands() {
-        arguments.push(cursor.integer()?);
-    }
-    require(!arguments.is_empty() && arguments.len() % 2 == 0, MALFORMED)?;
-    check_line_break(cursor)?;
-    require(arguments.len() <= POLYGON_LIMIT, OUTSIDE_LIMIT)?;
-    check_general(&arguments)?;
-    Ok(Command::Drawing { letter, arguments })
-}
-
-fn scan_fill_colour(cursor: &mut Cursor) -> Result<Command, u8> {
-    let (scheme, numbers) = scan_components(cursor)?;
-    check_line_break(cursor)?;
-    Ok(Command::FillColour(colour_of(scheme, &numbers)?))
-}
-
-/// What stands behind an `x` word: integers within limits, then perhaps a name.
+/// What stands behind an `x` word: integers within a limit, then perhaps a name.
 struct ControlForm {
     count: usize,
-    low: i64,
-    high: i64,
+    limit: Limit,
     named: bool,
 }
 
 fn control_form(letter: u8) -> Option<ControlForm> {
-    let (count, low, high, named) = match letter {
-        b'T' | b'F' => (0, 0, 0, true),
-        b'r' => (3, 1, NUMBER_LIMIT, false),
-        b'f' => (1, 0, POSITION_LIMIT, true),
-        b'H' | b'S' => (1, -NUMBER_LIMIT, NUMBER_LIMIT, false),
-        b'u' => (1, 0, 1, false),
-        b'i' | b'p' | b't' | b's' => (0, 0, 0, false),
+    let (count, limit, named) = match letter {
+        b'T' | b'F' => (0, GENERAL, true),
+        b'r' => (3, AT_LEAST_1, false),
+        b'f' => (1, POSITION, true),
+        b'H' | b'S' => (1, GENERAL, false),
+        b'u' => (1, SWITCH, false),
+        b'i' | b'p' | b't' | b's' => (0, GENERAL, false),
         _ => return None,
     };
-    Some(ControlForm { count, low, high, named })
-}
-
-/// "`x`, a spacer, then a word of any length; its first byte decides and the rest is ignored."
-fn scan_control(cursor: &mut Cursor) -> Result<Command, u8> {
-    let word = cursor.string().map_err(|_| UNKNOWN)?;
-    let letter = cursor.bytes[word.place];
-    if letter == b'X' {
-        return scan_text(cursor);
-    }
-    let form = control_form(letter).ok_or(UNKNOWN)?;
-    let numbers = cursor.integers(form.count)?;
-    let name = if form.named { Some(cursor.string()?) } else { None };
-    check_line_break(cursor)?;
-    check_within(&numbers, form.low, form.high)?;
-    name.map_or(Ok(()), check_name)?;
-    Ok(Command::Control { letter, numbers, name })
-}
-
-/// "`X`: after a spacer, the rest of the line raw, without comments; each next line that starts
-/// with `+` adds a newline and its rest."
-fn scan_text(cursor: &mut Cursor) -> Result<Command, u8> {
-    cursor.skip_spacer();
-    let place = cursor.at;
-    cursor.at = line_end(cursor.bytes, place);
-    let first_line = Name { place, length: cursor.at - place };
-    let mut length = first_line.length;
-    while cursor.bytes[cursor.at..].starts_with(b"\n+") {
-        let rest = cursor.at + 2;
-        cursor.at = line_end(cursor.bytes, rest);
-        length += 1 + (cursor.at - rest);
-    }
-    require(length <= TEXT_LIMIT, OUTSIDE_LIMIT)?;
-    Ok(Command::Text { first_line })
+    Some(ControlForm { count, limit, named })
 }

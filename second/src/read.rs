@@ -181,7 +181,7 @@ impl<'a> Walk<'a> {
             (false, true) => return Err(Refusal { number: OUT_OF_ORDER, offset: place }),
             (false, false) => {}
         }
-        let scanned = scan(self.stream, place).map_err(at(place))?;
+        let scanned = scan(self.stream, place)?;
         let (ordinal, h, v) = (self.ordinal, self.h, self.v);
         self.check_order(&scanned.command).map_err(at(place))?;
         self.check_font(&scanned.command).map_err(at(place))?;

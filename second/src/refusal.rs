@@ -1,6 +1,7 @@
 //! 01, "Refusal numbers and their order".
 
-/// A refusal: its number in 01's table and the offset that goes with it.
+/// A refusal: its number in 01's table and the offset that goes with it, which for 6 is the argument's
+/// by 2026-12.
 #[derive(Clone, Copy, Debug, PartialEq, Eq)]
 pub struct Refusal {
     pub number: u8,

@@ -1,12 +1,15 @@
 //! What must hold of every input, tried on generated ones.
 
+use second::bytes::skip_whitespace_and_comments;
 use second::command::{scan, Command};
 use second::find::{read_query, QueryGlyph};
 use second::generate::outline::{outline, write_outline, OUTLINE_LIST};
 use second::generate::random::Random;
 use second::generate::stream::Manner;
 use second::generate::{case, sound_case, Case};
+use second::read::Walk;
 use second::same::same_readings;
+use second::widths::read_list;
 use second::{find, read, respell, Reading, Record, Refusal, Rooms};
 
 /// Seeds for the counts of refusals, and for the other properties.
@@ -108,7 +111,9 @@ fn a_refusal_has_its_offset() {
         let fits = match number {
             1 | 13 => offset == 0,
             2 => is_line(&list),
-            3..=10 => is_command,
+            3..=5 | 7..=10 => is_command,
+            // an argument, or the empty first line of a text
+            6 => is_command || stream[offset..].starts_with(b"\n+"),
             11 => offset == stream.len(),
             12 => is_line(&query) && (offset < query.len() || query.is_empty()),
             _ => false,
@@ -117,17 +122,33 @@ fn a_refusal_has_its_offset() {
     }
 }
 
-/// What stands before a command at fault is sound: alone it lacks only `x s`.
+/// Where the command at fault begins: behind all that was accepted.
+fn command_at_fault(stream: &[u8], list: &[u8]) -> usize {
+    let widths = read_list(list).unwrap();
+    let (mut walk, mut end) = (Walk::new(stream, &widths), 0);
+    while let Ok(Some(step)) = walk.step(&mut Vec::new()) {
+        end = step.end;
+    }
+    skip_whitespace_and_comments(stream, end)
+}
+
+/// What stands before a command at fault is sound: alone it lacks only `x s`. The offset is the
+/// command's, of 6 one behind its letters.
 #[test]
 fn all_before_a_faulty_command_is_sound() {
     for seed in 0..SEEDS {
         let Case { stream, list, .. } = case(seed);
-        let Err(Refusal { number: 3..=10, offset }) = read(&stream, &list, NO_LIMIT) else {
+        let Err(Refusal { number: number @ 3..=10, offset }) = read(&stream, &list, NO_LIMIT) else {
             continue;
         };
-        let before = read(&stream[..offset], &list, NO_LIMIT).err();
-        let expected = Some(Refusal { number: 11, offset });
-        assert!(before == expected || before.is_none(), "seed {seed}: {before:?} for {offset}");
+        let place = command_at_fault(&stream, &list);
+        assert!(
+            if number == 6 { place < offset } else { place == offset },
+            "seed {seed}: {number} at {offset}"
+        );
+        let before = read(&stream[..place], &list, NO_LIMIT).err();
+        let expected = Some(Refusal { number: 11, offset: place });
+        assert!(before == expected || before.is_none(), "seed {seed}: {before:?} for {place}");
     }
 }
 

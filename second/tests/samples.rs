@@ -59,7 +59,7 @@ fn p6_a_line_without_spacers() {
 #[test]
 fn p7_the_largest_component() {
     assert_eq!(read_body("mg 65536").unwrap().glyph_colour.components, [65_536, 0, 0, 0]);
-    assert_eq!(read_body("mg 65537").err(), refused(6, BODY_START));
+    assert_eq!(read_body("mg 65537").err(), refused(6, BODY_START + 3));
 }
 
 #[test]
