@@ -39,6 +39,11 @@ fn request_2026_02_holds() {
     run_file("2026-02.vec", 33);
 }
 
+#[test]
+fn request_2026_12_holds() {
+    run_file("2026-12.vec", 231);
+}
+
 /// The name of a failure leads to one case.
 #[test]
 fn names_differ() {
