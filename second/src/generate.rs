@@ -21,15 +21,19 @@ pub struct Case {
     pub rooms: Rooms,
 }
 
-/// The case of a seed: mostly sound, else with numbers near their limits, with slips, damaged,
-/// with little room or, seldom, too long.
+/// The case of a seed: mostly sound, else with numbers near their limits, with slips, with arguments
+/// outside their limits, damaged, with little room or, seldom, too long.
 pub fn case(seed: u64) -> Case {
     let mut random = Random::new(seed);
     let kind = random.below(100);
-    let manner = Manner { edges: (40..55).contains(&kind), slips: (55..67).contains(&kind) };
+    let manner = Manner {
+        edges: (40..55).contains(&kind),
+        slips: (55..67).contains(&kind),
+        faults: (67..75).contains(&kind),
+    };
     let mut case = sound_case(&mut random, manner);
     match kind {
-        67..=94 => damage_case(&mut random, &mut case),
+        75..=94 => damage_case(&mut random, &mut case),
         95..=99 if random.once_in(10) => lengthen(&mut random, &mut case),
         _ => {}
     }

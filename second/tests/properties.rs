@@ -5,12 +5,15 @@ use second::command::{scan, Command};
 use second::find::{read_query, QueryGlyph};
 use second::generate::outline::{outline, write_outline, OUTLINE_LIST};
 use second::generate::random::Random;
+use second::generate::stream::fault::{arguments_of, places, Argument, FORMS};
 use second::generate::stream::Manner;
 use second::generate::{case, sound_case, Case};
 use second::read::Walk;
 use second::same::same_readings;
 use second::widths::read_list;
 use second::{find, read, respell, Reading, Record, Refusal, Rooms};
+use std::collections::BTreeMap;
+use std::ops::Range;
 
 /// Seeds for the counts of refusals, and for the other properties.
 const MANY_SEEDS: u64 = 100_000;
@@ -56,7 +59,7 @@ fn letters_of(spelling: &[u8]) -> impl Iterator<Item = Vec<u8>> + '_ {
 
 #[test]
 fn every_command_is_generated() {
-    let mut counts = std::collections::BTreeMap::new();
+    let mut counts = BTreeMap::new();
     let mut lengths = Vec::new();
     for (_, case, _) in accepted(20_000) {
         lengths.push(case.stream.len());
@@ -252,6 +255,131 @@ fn thicknesses_come_to_the_limit() {
     }
     println!("reached {reach:?}, passed {pass:?}");
     assert!(reach.iter().all(|&count| count > 20) && pass.iter().all(|&count| count > 100));
+}
+
+/// The end of the run of such bytes from a place on.
+fn run_end(stream: &[u8], from: usize, belongs: impl Fn(u8) -> bool) -> usize {
+    stream[from..].iter().position(|&byte| !belongs(byte)).map_or(stream.len(), |length| from + length)
+}
+
+/// The letters of a command that has an argument with a limit, and the place behind them or its word.
+fn letters_at(stream: &[u8], place: usize) -> (&'static str, usize) {
+    let spelt = |letters: &'static str| {
+        let places = (place..stream.len()).filter(|&at| !b" \t".contains(&stream[at])).take(letters.len());
+        let places: Vec<usize> = places.collect();
+        let agree = places.iter().map(|&at| stream[at]).eq(letters.bytes());
+        agree.then(|| (letters, places[places.len() - 1] + 1))
+    };
+    let (letters, end) =
+        FORMS.iter().find_map(|(letters, _)| spelt(letters)).expect("a command with a limit");
+    match letters.starts_with('x') {
+        true => (letters, run_end(stream, end, |byte| !b" \t\n".contains(&byte))),
+        false => (letters, end),
+    }
+}
+
+/// The end of the argument that begins at a place; the place itself where none stands there.
+fn argument_end(stream: &[u8], start: usize, argument: Argument) -> usize {
+    match argument {
+        Argument::Name | Argument::Word => run_end(stream, start, |byte| !b" \t\n".contains(&byte)),
+        Argument::Text => {
+            let mut end = run_end(stream, start, |byte| byte != b'\n');
+            while stream[end..].starts_with(b"\n+") {
+                end = run_end(stream, end + 1, |byte| byte != b'\n');
+            }
+            end
+        }
+        _ => run_end(stream, start + usize::from(stream[start..].starts_with(b"-")), |byte| {
+            byte.is_ascii_digit()
+        }),
+    }
+}
+
+/// The letters of a command whose form is in order, and where its arguments stand, dummies too.
+fn arguments_at(stream: &[u8], place: usize) -> (&'static str, Vec<Range<usize>>) {
+    let (letters, mut at) = letters_at(stream, place);
+    let arguments = arguments_of(letters);
+    let count = if arguments == [Argument::Pairs] { usize::MAX } else { arguments.len() };
+    let mut ranges = Vec::new();
+    for number in 0..count {
+        let start = run_end(stream, at, |byte| b" \t".contains(&byte));
+        at = argument_end(stream, start, arguments[number.min(arguments.len() - 1)]);
+        if at == start {
+            break;
+        }
+        ranges.push(start..at);
+    }
+    (letters, ranges)
+}
+
+/// A stream that ends with the command of these arguments, 64 at most, all of them harmless but one.
+fn with_one_kept(stream: &[u8], arguments: &[Range<usize>], kept: usize) -> Vec<u8> {
+    let mut bytes = stream[..arguments[0].start].to_vec();
+    for (number, range) in arguments.iter().take(64).enumerate() {
+        let argument = if number == kept { &stream[range.clone()] } else { b"1" };
+        bytes.extend([b" ", argument].concat());
+    }
+    bytes
+}
+
+/// 2026-12: a 6 points at the first argument that makes a 6 by itself, where all others are harmless; where
+/// none of the first 64 does, at the 65th.
+#[test]
+fn a_6_points_at_the_first_argument_outside() {
+    let (mut single, mut several) = (0, 0);
+    for seed in 0..SEEDS {
+        let Case { stream, list, .. } = case(seed);
+        let Err(Refusal { number: 6, offset }) = read(&stream, &list, NO_LIMIT) else { continue };
+        let (letters, arguments) = arguments_at(&stream, command_at_fault(&stream, &list));
+        let is_outside = |number: &usize| {
+            let answer = read(&with_one_kept(&stream, &arguments, *number), &list, NO_LIMIT);
+            answer.is_err_and(|refusal| refusal.number == 6)
+        };
+        let outside: Vec<usize> = (0..arguments.len().min(64)).filter(is_outside).collect();
+        let first = outside.first().copied().unwrap_or(64);
+        assert_eq!(arguments[first].start, offset, "seed {seed}: {letters}, argument {first}");
+        match outside.len() + arguments.len().saturating_sub(64) {
+            1 => single += 1,
+            _ => several += 1,
+        }
+    }
+    println!("one argument outside: {single}, several: {several}");
+    assert!(single > 1_000 && several > 200);
+}
+
+/// Whether the command at a place stands behind `x s` and has an argument outside its limit.
+fn is_fault_behind_stop(stream: &[u8], list: &[u8], place: usize) -> bool {
+    let is_stopped = read(&stream[..place], list, NO_LIMIT).is_ok();
+    is_stopped && scan(stream, place).is_err_and(|refusal| refusal.number == 6)
+}
+
+/// Each argument place that has a limit is the one at fault in many streams; so is a text whose first line is
+/// empty; and behind `x s` such a command is 7 at its first byte.
+#[test]
+fn faults_come_at_every_argument_place() {
+    let (mut counts, mut empty_lines, mut behind_stop) = (BTreeMap::new(), 0, 0);
+    for seed in 0..MANY_SEEDS {
+        let Case { stream, list, .. } = case(seed);
+        match read(&stream, &list, NO_LIMIT) {
+            Err(Refusal { number: 6, offset }) => {
+                let (letters, arguments) = arguments_at(&stream, command_at_fault(&stream, &list));
+                let number = arguments.iter().position(|range| range.start == offset).unwrap();
+                let is_middle = arguments_of(letters) == [Argument::Pairs] && (1..63).contains(&number);
+                *counts.entry((letters, if is_middle { 1 } else { number })).or_insert(0) += 1;
+                empty_lines += u32::from(stream[offset] == b'\n');
+            }
+            Err(Refusal { number: 7, offset }) => {
+                behind_stop += u32::from(is_fault_behind_stop(&stream, &list, offset));
+            }
+            _ => {}
+        }
+    }
+    println!("faults {counts:?}, empty first lines {empty_lines}, behind `x s` {behind_stop}");
+    for place in places() {
+        assert!(counts.get(&place).is_some_and(|&count| count >= 30), "too few of {place:?}");
+    }
+    assert_eq!(counts.len(), places().len());
+    assert!(empty_lines > 20 && behind_stop > 100);
 }
 
 /// A spelling has no freedom left: only its own commands, one a line, and no motion in vain.

@@ -37,8 +37,8 @@ fn sound_search(random: &mut Random) -> Case {
         0..=8 => outlined(random, outline),
         9..=13 => outlined(random, repeated_outline),
         14..=17 => sound_case(random, Manner::default()),
-        18 => sound_case(random, Manner { edges: true, slips: false }),
-        _ => sound_case(random, Manner { edges: false, slips: true }),
+        18 => sound_case(random, Manner { edges: true, ..Manner::default() }),
+        _ => sound_case(random, Manner { slips: true, ..Manner::default() }),
     };
     let reading = read(&case.stream, &case.list, Rooms::default());
     case.query = match reading {

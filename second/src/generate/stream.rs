@@ -1,5 +1,7 @@
 //! Sound streams that use every command and every freedom of spelling.
 
+pub mod fault;
+
 use super::list::{ListFont, GLYPH_BYTES};
 use super::random::Random;
 
@@ -10,6 +12,8 @@ pub struct Manner {
     pub edges: bool,
     /// now and then a command that is wrong by its form, limits or place
     pub slips: bool,
+    /// now and then a command with an argument outside its limit, in the prologue and behind `x s` too
+    pub faults: bool,
 }
 
 /// What must stand behind a command before the next one.
@@ -181,10 +185,24 @@ impl<'a> Writer<'a> {
         Self::text,
     ];
 
+    /// Whether a fault is due, once in so many times where faults are wanted.
+    fn is_faulty(&mut self, turns: usize) -> bool {
+        self.manner.faults && self.random.once_in(turns)
+    }
+
     fn write_prologue(&mut self) {
+        if self.is_faulty(24) {
+            let typesetter = self.fault_at("xT", 0);
+            self.write(typesetter);
+        }
         let name = self.name();
         let typesetter = self.control_piece(b'T', &[], Some(&name));
         self.write(typesetter);
+        if self.is_faulty(24) {
+            let number = self.random.below(3);
+            let resolution = self.fault_at("xr", number);
+            self.write(resolution);
+        }
         let quantum = *self.random.pick(&[1, 1, 1, 1, 2, 4, 24, 99_999_999]);
         let resolution = self.control_piece(b'r', &[72_000, quantum, 1], None);
         self.write(resolution);
@@ -203,6 +221,9 @@ impl<'a> Writer<'a> {
         if self.manner.slips && self.random.once_in(6) {
             return self.slip();
         }
+        if self.is_faulty(6) {
+            return self.fault();
+        }
         if !self.has_page {
             return self.random.pick(&Self::EARLY)(self);
         }
@@ -218,6 +239,10 @@ impl<'a> Writer<'a> {
     fn write_stop(&mut self) {
         let stop = self.control_piece(b's', &[], None);
         self.write(stop);
+        if self.is_faulty(6) {
+            let fault = self.fault();
+            self.write(fault);
+        }
         if self.random.once_in(4) {
             return;
         }
@@ -293,9 +318,15 @@ impl<'a> Writer<'a> {
 
     /// An integer: leading zeros, and 0 as `-0`, at times.
     fn integer(&mut self, number: i64) -> Vec<u8> {
-        let minus = if number < 0 || (number == 0 && self.random.once_in(4)) { "-" } else { "" };
+        let has_minus = number < 0 || (number == 0 && self.random.once_in(4));
+        self.signed(has_minus, &number.abs().to_string())
+    }
+
+    /// The same of any magnitude, by its digits.
+    fn signed(&mut self, has_minus: bool, digits: &str) -> Vec<u8> {
+        let minus = if has_minus { "-" } else { "" };
         let zeros = "0".repeat(if self.random.once_in(6) { self.random.below(12) } else { 0 });
-        format!("{minus}{zeros}{}", number.abs()).into_bytes()
+        format!("{minus}{zeros}{digits}").into_bytes()
     }
 
     /// Integers, each with a spacer before it that is not empty where two would run together.
