@@ -46,12 +46,16 @@ fn assert_json(folder: &Folder, number: u32, offset: usize, at: (usize, usize), 
 #[test]
 fn refusals_of_the_stream() {
     let folder = Folder::new("refusals-stream");
+    let outside = "number, count, name or text outside its limit";
+    let text = format!("x X\n+{}", "q".repeat(4096));
     // a fragment of a body, which begins in line 8, and its refusal: number, offset in it, reason
     let cases = [
         ("h512a", 3, 4, "unknown command, `D`, `DF`, `m` or `x` letter, or none"),
         ("h", 4, 0, "argument missing or malformed; none or an odd number for `Dp`, `DP`, `D~`"),
         ("h1 Dl 1 2 3", 5, 3, "other bytes before the line break of `D` or `x`"),
-        ("mg 65537", 6, 0, "number, count, name or text outside its limit"),
+        ("mg 65537", 6, 3, outside),
+        ("h1 Dc 5 100000000", 6, 8, outside),
+        (&text, 6, 3, outside),
         ("f2", 8, 0, "`f` to an unmounted position; glyph or `N` without current font and size"),
         ("ta tz", 9, 3, "no width for a byte of `t` or `u`"),
         ("H99999999h1", 10, 9, "h or v beyond 99,999,999 either way"),

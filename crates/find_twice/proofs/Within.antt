@@ -15,7 +15,7 @@ use Rattle.read_model.specs.declared.Emitted.the-variants as E
 use Rattle.read_model.specs.declared.Did.{Did}
 use Rattle.read_model.specs.declared.State.{State}
 use Rattle.read_model.specs.declared.Turned.{Turned}
-use Rattle.read_model.specs.Turns.{didAt, nextOf, halted, emitted, doneOf, skipped, turnOn, turnOf}
+use Rattle.read_model.specs.Turns.{didAt, nextOf, haltedAt, halted, emitted, pointOf, doneOf, skipped, turnOn, turnOf}
 use Rattle.read_model.specs.Passes.{ReadPass, readStepOf, readPassFor}
 
 -- at most m records, and that is the room
@@ -36,7 +36,7 @@ module _ (m : ℕ) where
         if-on Keeps (ltb (st .rmax - st .records) (w .left)) (halted st 13) _ (λ z. h) (λ z. let l : w .left ≤ st .rmax - st .records = ltb-false (st .rmax - st .records) (w .left) z in (omega (arith, h .0, h .1), h .1))
 
     done-keeps : (d : Did) → Keeps (doneOf n st to d)
-    done-keeps d = if-both Keeps (eqb (d .refusal) 0) (emitted n st to (d .env) (d .emitted)) (halted st (d .refusal)) (emitted-keeps (d .env) (d .emitted)) h
+    done-keeps d = if-both Keeps (eqb (d .refusal) 0) (emitted n st to (d .env) (d .emitted)) (haltedAt (pointOf (st .at) to (d .refusal)) st (d .refusal)) (emitted-keeps (d .env) (d .emitted)) h
 
   turn-keeps : (s ws : List ℕ) (st : State) → Held m st → Keeps (turnOf s ws st)
   unfolding turnOf

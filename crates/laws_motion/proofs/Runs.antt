@@ -173,7 +173,7 @@ AllWritten (c ∷ cs) = CmdWritten c × AllWritten cs
 
 bare-written : (x : Cmds) → AllCmds x → AllWritten (bare x)
 bare-written (done at) h = tt
-bare-written (wrong n at) h = tt
+bare-written (wrong n at k) h = tt
 bare-written (next c at a l more) h = (cmd-written c (h .0), bare-written more (h .1))
 
 -- of the front, and of what stands behind it

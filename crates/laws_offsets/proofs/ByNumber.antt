@@ -1,38 +1,52 @@
 -- The refusals by their numbers: what each one's offset is, and that it lies in its input.
-use Prim.Native.Nat.{ℕ, _<_, _≤_}
+use Prim.Native.Nat.{ℕ, _+_, _<_, _≤_}
 use native.Mathlib.Omega.{arith}
 use mathlib.Core.Bool.{false}
-use mathlib.Core.List.{List, []}
+use mathlib.Core.List.{List, [], _∷_}
 use mathlib.Core.Logic.{_⊎_, inl, inr}
 use mathlib.Core.Path.{_≡_, refl}
 use borrow.Author.Tests.{ne-eqb}
 use lib.Dec.{eqb}
-use lib.ListN.{length}
+use lib.ListN.{length, length-drop}
 use Rattle.rules.specs.Widths.{Widths}
 use Rattle.rules.specs.State.{Env}
-use Rattle.laws_offsets.specs.Stream.{FirstByte, Fault, as-written, as-done, behind-stop, StreamOffset, at-command, at-end}
+use Rattle.laws_scan.proofs.Bounds.{command-in}
+use Rattle.laws_offsets.specs.Stream.{byteAt, behindAt, FirstByte, ArgumentAt, Fault, as-written, by-argument, as-done, behind-stop, StreamOffset, at-command, at-end}
 use Rattle.laws_offsets.specs.Lists.{LineStart, first-line, behind-newline, ListOffset, QueryOffset}
 use Rattle.laws_offsets.specs.Offsets.{ReadOffset, too-long, in-list, in-stream, FindOffset, one-too-long, then-in-list, then-in-query, then-in-stream, OrRoom, room-aside, no-room, Said, ByNumber}
 use Rattle.laws_offsets.proofs.Offsets.{offsets}
 
--- of a stream: 3 to 10 at a first byte, or 11 at the end
+-- of a stream: 3 to 10 at a first byte, but 6 at an argument; or 11 at the end
 record OfStream (s : List ℕ) (n at : ℕ) : Type 0 where
   number : (3 ≤ n) × (n ≤ 11)
-  first : n ≤ 10 → FirstByte s at
+  first : n ≤ 10 → (n ≡ 6 → ⊥) → FirstByte s at
+  argument : n ≡ 6 → ArgumentAt s at
   end : n ≡ 11 → at ≡ length s
   inside : at ≤ length s
 
-fault-number : (w : Widths) (s : List ℕ) (at : ℕ) (e : Env) (n : ℕ) → Fault w s at e n → (3 ≤ n) × (n ≤ 10)
-fault-number w s at e _ (as-written n k p q lo hi) = (lo, omega arith)
-fault-number w s at e _ (as-done n c a l p q lo hi) = (omega arith, hi)
-fault-number w s at e _ (behind-stop n k p q) = (omega arith, omega arith)
+-- what stands at a place is at fault with a number from 3 to 10
+at-first : (s : List ℕ) (p n : ℕ) → FirstByte s p → 3 ≤ n → n ≤ 10 → (n ≡ 6 → ⊥) → OfStream s n p
+at-first s p n f lo hi no-6 =
+    record { number = (lo, omega arith); first = λ h k. f; argument = λ h. absurd (no-6 h); end = λ h. absurd (omega arith); inside = omega (arith, f .inside) }
+
+of-fault : (w : Widths) (s : List ℕ) (p : ℕ) (e : Env) (n at : ℕ) → FirstByte s p → Fault w s p e n at → OfStream s n at
+of-fault w s p e _ _ f (as-written n k h q lo hi) = at-first s p n f lo (omega arith) (λ z. omega arith)
+of-fault w s p e _ _ f (by-argument k h q) =
+    let g : k ≤ length (byteAt s p ∷ behindAt s p) = rw h at (command-in (byteAt s p) (behindAt s p)) in
+    record {
+      number = (omega arith, omega arith);
+      first = λ a b. absurd (b refl);
+      argument = λ a. record { place = p; first = f; behind = k; offset = refl; refused = h };
+      end = λ a. absurd (omega arith);
+      inside = omega (arith, f .inside, length-drop (p + 1) s);
+    }
+of-fault w s p e _ _ f (as-done n c a l h q lo hi) = at-first s p n f (omega arith) hi (λ z. omega arith)
+of-fault w s p e _ _ f (behind-stop n k h q) = at-first s p 7 f (omega arith) (omega arith) (λ z. omega arith)
 
 of-stream : (w : Widths) (s : List ℕ) (n at : ℕ) → StreamOffset w s n at → OfStream s n at
-of-stream w s _ _ (at-command n at f) =
-    let r : (3 ≤ n) × (n ≤ 10) = fault-number w s at (f .env) n (f .fault) in
-    record { number = (r .0, omega arith); first = λ h. f .first; end = λ h. absurd (omega arith); inside = omega (arith, f .first .inside) }
+of-stream w s _ _ (at-command n at f) = of-fault w s (f .place) (f .env) n at (f .first) (f .fault)
 of-stream w s _ _ (at-end e h p) =
-    record { number = (omega arith, omega arith); first = λ k. absurd (omega arith); end = λ k. refl; inside = omega arith }
+    record { number = (omega arith, omega arith); first = λ k. absurd (omega arith); argument = λ k. absurd (omega arith); end = λ k. refl; inside = omega arith }
 
 pub start-inside : (t : List ℕ) (at : ℕ) → LineStart t at → at ≤ length t
 start-inside t _ first-line = omega arith
@@ -45,7 +59,9 @@ module _ (s list q : List ℕ) where
     number = (omega arith, omega arith);
     of-1 = λ h. (refl, o);
     of-2 = λ h. absurd (omega arith);
-    of-3-to-10 = λ h k. absurd (omega arith);
+    of-3-to-5 = λ h k. absurd (omega arith);
+    of-6 = λ h. absurd (omega arith);
+    of-7-to-10 = λ h k. absurd (omega arith);
     of-11 = λ h. absurd (omega arith);
     of-12 = λ h. absurd (omega arith);
     of-13 = λ h. absurd (omega arith);
@@ -57,7 +73,9 @@ module _ (s list q : List ℕ) where
     number = (omega arith, omega arith);
     of-1 = λ h. absurd (omega arith);
     of-2 = λ h. absurd (omega arith);
-    of-3-to-10 = λ h k. absurd (omega arith);
+    of-3-to-5 = λ h k. absurd (omega arith);
+    of-6 = λ h. absurd (omega arith);
+    of-7-to-10 = λ h k. absurd (omega arith);
     of-11 = λ h. absurd (omega arith);
     of-12 = λ h. absurd (omega arith);
     of-13 = λ h. refl;
@@ -69,7 +87,9 @@ module _ (s list q : List ℕ) where
     number = (omega arith, omega arith);
     of-1 = λ h. absurd (omega arith);
     of-2 = λ h. o;
-    of-3-to-10 = λ h k. absurd (omega arith);
+    of-3-to-5 = λ h k. absurd (omega arith);
+    of-6 = λ h. absurd (omega arith);
+    of-7-to-10 = λ h k. absurd (omega arith);
     of-11 = λ h. absurd (omega arith);
     of-12 = λ h. absurd (omega arith);
     of-13 = λ h. absurd (omega arith);
@@ -85,7 +105,9 @@ module _ (s list q : List ℕ) where
         number = (omega arith, omega arith);
         of-1 = λ h. absurd (omega arith);
         of-2 = λ h. absurd (omega arith);
-        of-3-to-10 = λ h k. o .first k;
+        of-3-to-5 = λ h k. o .first (omega arith) (λ z. omega arith);
+        of-6 = o .argument;
+        of-7-to-10 = λ h k. o .first k (λ z. omega arith);
         of-11 = o .end;
         of-12 = λ h. absurd (omega arith);
         of-13 = λ h. absurd (omega arith);
@@ -97,7 +119,9 @@ module _ (s list q : List ℕ) where
     number = (omega arith, omega arith);
     of-1 = λ h. absurd (omega arith);
     of-2 = λ h. absurd (omega arith);
-    of-3-to-10 = λ h k. absurd (omega arith);
+    of-3-to-5 = λ h k. absurd (omega arith);
+    of-6 = λ h. absurd (omega arith);
+    of-7-to-10 = λ h k. absurd (omega arith);
     of-11 = λ h. absurd (omega arith);
     of-12 = λ h. o;
     of-13 = λ h. absurd (omega arith);

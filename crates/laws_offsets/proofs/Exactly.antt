@@ -1,6 +1,7 @@
 -- Where a row of the table is there, with what is said of its place, that refusal is given.
 use Prim.Native.Nat.{ℕ, zero, suc, _+_, _-_, _<_, _≤_}
 use native.Mathlib.Omega.{arith}
+use native.Mathlib.Nat.{add-zero}
 use mathlib.Core.Bool.{Bool, true, false, _||_}
 use mathlib.Core.List.{List, [], _∷_, _++_, append-assoc, append-nil}
 use mathlib.Core.Logic.{_⊎_, inl, inr}
@@ -19,9 +20,10 @@ use Rattle.rules.specs.Record.{Answer, refuse, afterRows, glyphRows, itemRows, 
 use Rattle.rules.specs.Find.{Wanted, queryLines, Query, illFormed, wellFormed, query}
 use Rattle.rules.specs.Answers.{streamMost, isOver, read, roomFor, readInto, notSpelled, spellIf, spellWith, respell, spellingIn, respellInto, notFound, hitsIn, findAsked, findWith, find, foundIn, findInto, judgingOf, judge}
 use Rattle.laws.proofs.Cases.{on, no, or-true}
+use Rattle.laws_scan.proofs.Bounds.{bad-place}
 use Rattle.laws_scan.proofs.Walk.{from, from-end, from-white, from-comment, from-bad, from-got}
 use Rattle.laws_find.specs.Written.{gapLine}
-use Rattle.laws_offsets.specs.Stream.{byteAt, behindAt, commandAt, FirstByte, ReadTo, from-start, past-white, past-comment, past-command, Fault, as-written, as-done, behind-stop, StreamOffset, at-command, at-end}
+use Rattle.laws_offsets.specs.Stream.{byteAt, behindAt, commandAt, FirstByte, ReadTo, from-start, past-white, past-comment, past-command, Fault, as-written, by-argument, as-done, behind-stop, StreamOffset, at-command, at-end}
 use Rattle.laws_offsets.specs.Lists.{LineStart, first-line, behind-newline, lineEnd, WrongAt, unended, wrong-line, missing, ListOffset, AskedWrongAt, empty, unended-line, wrong-asked, last-gap, QueryOffset}
 use Rattle.laws_offsets.specs.Offsets.{NotTooLong, ReadOffset, too-long, in-list, in-stream, FindOffset, one-too-long, then-in-list, then-in-query, then-in-stream, Exactly}
 use Rattle.laws_offsets.proofs.ByNumber.{start-inside}
@@ -191,15 +193,17 @@ module _ (w : Widths) (s : List ℕ) where
       let j : is "#" (byteAt s at) ≡ false = got-no (is "#" (byteAt s at)) (commandAt s at) c a l q (hash-bad (byteAt s at) (behindAt s at)) in
       carried at e h n p (rw (from-got s at i k j c a l q, r) (after-refuse (follow w d (from s (at + l))) gs xs at (at + a) l n p f))
 
-  fault-refused : (at : ℕ) (e : Env) (n : ℕ) → FirstByte s at → Fault w s at e n → follow w e (from s at) ≡ refuse n at
+  fault-refused : (p : ℕ) (e : Env) (n at : ℕ) → FirstByte s p → Fault w s p e n at → follow w e (from s p) ≡ refuse n at
   unfolding follow
-  fault-refused at e _ b (as-written n k p q lo hi) = rw (from-bad s at (b .inside) (b .no-white) (b .no-comment) n k p, q)
-  fault-refused at e _ b (as-done n c a l p q lo hi) = rw (from-got s at (b .inside) (b .no-white) (b .no-comment) c a l p, q)
-  fault-refused at e _ b (behind-stop n k p q) = rw (from-bad s at (b .inside) (b .no-white) (b .no-comment) n k p, q)
+  fault-refused p e _ _ b (as-written n k h q lo hi) =
+      rw (from-bad s p (b .inside) (b .no-white) (b .no-comment) n k h, q, bad-place (byteAt s p) (behindAt s p) n k h (λ z. omega arith), add-zero)
+  fault-refused p e _ _ b (by-argument k h q) = rw (from-bad s p (b .inside) (b .no-white) (b .no-comment) 6 k h, q)
+  fault-refused p e _ _ b (as-done n c a l h q lo hi) = rw (from-got s p (b .inside) (b .no-white) (b .no-comment) c a l h, q)
+  fault-refused p e _ _ b (behind-stop n k h q) = rw (from-bad s p (b .inside) (b .no-white) (b .no-comment) n k h, q)
 
   stream-refused : (n at : ℕ) → StreamOffset w s n at → follow w start (commands 0 0 s) ≡ refuse n at
   unfolding follow
-  stream-refused _ _ (at-command n at f) = carried at (f .env) (f .read-to) n at (fault-refused at (f .env) n (f .first) (f .fault))
+  stream-refused _ _ (at-command n at f) = carried (f .place) (f .env) (f .read-to) n at (fault-refused (f .place) (f .env) n at (f .first) (f .fault))
   stream-refused _ _ (at-end e h q) = carried (length s) e h 11 (length s) (rw (from-end s (length s) (omega arith), q))
 
 -- ---- answers

@@ -241,7 +241,7 @@ module _ (w : Widths) (s : List ℕ) where
       → ((k : ℕ) (d : Env) → k ≤ length r → ReadTo w s (at + 1 + k) d → Rows (at + 1 + k) (follow w d (commands (at + 1) k r)))
       → Rows at (follow w e (oneCommand at (λ k. commands (at + 1) k r) x))
   unfolding follow
-  one-rows at b r e (bad n k) f h p q more = tt
+  one-rows at b r e (bad n k) f h p q more = if-both (Rows at) (stopped e) _ _ tt tt
   one-rows at b r e (got c a l) f h p q more =
       let g : (1 ≤ l) × (l ≤ suc (length r)) × (a ≤ l) = command-within b r c a l q in
       let z : at + l ≡ at + 1 + (l - 1) = omega arith in

@@ -1,9 +1,12 @@
--- A refusal of a stream points at the first byte of the command at fault, or at the stream's end.
+-- A refusal of a stream points at the first byte of the command at fault, at one of its arguments, or at the stream's end.
 use Prim.Native.Nat.{ℕ, zero, suc, _+_, _-_, _<_, _≤_}
 use native.Mathlib.Omega.{arith}
 use native.Mathlib.Nat.{add-zero}
+use mathlib.Core.Bool.{false}
 use mathlib.Core.List.{List, [], _∷_}
 use mathlib.Core.Path.{_≡_, refl, sym, ap, _∙_}
+use borrow.Author.Tests.{eqb-true, eqb-false}
+use lib.Dec.{eqb}
 use lib.ListN.{length, drop, getD, length-drop}
 use lib.Seq.{drop-drop, getD-drop}
 use Rattle.rules.specs.Bytes.{if_then_else_, is, isNotNewline, isWhite, oneLine}
@@ -12,10 +15,11 @@ use Rattle.rules.specs.Scan.{got, bad, Scan, command, Cmds, oneCommand, command
 use Rattle.rules.specs.Widths.{Widths}
 use Rattle.rules.specs.State.{Env, start, Step, refused, went, acts, perform, stopped}
 use Rattle.rules.specs.Record.{GlyphRow, ItemRow, Answer, refuse, answer, afterRows, glyphRows, itemRows, goOn, follow}
-use Rattle.laws.proofs.Cases.{if-on, no}
-use Rattle.laws_scan.proofs.Bounds.{span-le, command-within}
-use Rattle.laws_offsets.specs.Stream.{byteAt, behindAt, commandAt, Between, at-start, behind-white, behind-comment, behind-command, FirstByte, ReadTo, from-start, past-white, past-comment, past-command, as-written, as-done, behind-stop, StreamOffset, at-command, at-end}
-use Rattle.laws_offsets.proofs.Numbers.{ScanIn, command-in, StepIn, step-in, stopped-7}
+use Rattle.laws.proofs.Cases.{if-on, on, no}
+use Rattle.laws_read.proofs.Numbers.{StepIn, step-in, stopped-7}
+use Rattle.laws_scan.proofs.Bounds.{span-le, command-within, bad-place}
+use Rattle.laws_offsets.specs.Stream.{byteAt, behindAt, commandAt, Between, at-start, behind-white, behind-comment, behind-command, FirstByte, ReadTo, from-start, past-white, past-comment, past-command, as-written, by-argument, as-done, behind-stop, StreamOffset, at-command, at-end}
+use Rattle.laws_offsets.proofs.Numbers.{ScanIn, command-in}
 
 abbrev numberOf : Step → ℕ
 numberOf (refused n) = n
@@ -40,18 +44,30 @@ module _ (w : Widths) (s : List ℕ) where
 
   -- a command at a place between commands, in an environment
   module _ (at : ℕ) (e : Env) (f : FirstByte s at) (h : ReadTo w s at e) where
-    bad-points : (n k : ℕ) → commandAt s at ≡ bad n k → Points (refuse (if stopped e then 7 else n) at)
-    bad-points n k p =
+    six-points : (k : ℕ) → commandAt s at ≡ bad 6 k → stopped e ≡ false → StreamOffset w s 6 (at + k)
+    six-points k p q = at-command 6 (at + k) (record { place = at; first = f; env = e; read-to = h; fault = by-argument k p q; after-stop = λ x. no (sym q ∙ x) })
+
+    written-points : (n k : ℕ) → commandAt s at ≡ bad n k → stopped e ≡ false → StreamOffset w s n (at + k)
+    written-points n k p q =
         let g : ScanIn (bad n k) = rw p at (command-in (byteAt s at) (behindAt s at)) in
-        if-on (λ m. StreamOffset w s m at) (stopped e) 7 n
-        (λ q. at-command 7 at (record { first = f; env = e; read-to = h; fault = behind-stop n k p q; after-stop = λ x. refl }))
-        (λ q. at-command n at (record { first = f; env = e; read-to = h; fault = as-written n k p q (g .0) (g .1); after-stop = λ x. no (sym q ∙ x) }))
+        on (eqb n 6)
+        (λ z. let y : n ≡ 6 = eqb-true n 6 z in rw y (six-points k (rw y at p) q))
+        (λ z.
+        let y : n ≡ 6 → ⊥ = eqb-false n 6 z in
+        rw (bad-place (byteAt s at) (behindAt s at) n k p y, add-zero)
+        (at-command n at (record { place = at; first = f; env = e; read-to = h; fault = as-written n k p q (g .0) (omega (arith, y)); after-stop = λ x. no (sym q ∙ x) })))
+
+    bad-points : (n k : ℕ) → commandAt s at ≡ bad n k → Points (if stopped e then refuse 7 at else refuse n (at + k))
+    bad-points n k p =
+        if-on Points (stopped e) (refuse 7 at) (refuse n (at + k))
+        (λ q. at-command 7 at (record { place = at; first = f; env = e; read-to = h; fault = behind-stop n k p q; after-stop = λ x. refl }))
+        (written-points n k p)
 
     done-points : (c : Cmd) (a l : ℕ) (more : Env → Answer) (x : Step) → commandAt s at ≡ got c a l → perform e (acts w e c) ≡ x
         → ((d : Env) → ReadTo w s (at + l) d → Points (more d)) → Points (goOn at (at + a) l more x)
     done-points c a l more (refused n) p q go =
         let g : StepIn (refused n) = rw q at (step-in w e c) in
-        at-command n at (record { first = f; env = e; read-to = h; fault = as-done n c a l p q (g .0) (g .1); after-stop = λ x. ap numberOf (sym q ∙ stopped-7 e x w c) })
+        at-command n at (record { place = at; first = f; env = e; read-to = h; fault = as-done n c a l p q (g .0) (g .1); after-stop = λ x. ap numberOf (sym q ∙ stopped-7 e x w c) })
     done-points c a l more (went d gs xs) p q go =
         after-points (glyphRows (at + a) gs) (itemRows at l xs) (more d) (go d (past-command at e d c a l gs xs h p q))
 

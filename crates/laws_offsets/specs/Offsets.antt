@@ -12,7 +12,7 @@ use Rattle.rules.specs.Widths.{Widths, unsound, sound, widthList}
 use Rattle.rules.specs.Record.{refuse}
 use Rattle.rules.specs.Find.{Wanted, illFormed, wellFormed, query}
 use Rattle.rules.specs.Answers.{read, readInto, notSpelled, respell, respellInto, notFound, find, findInto, judge}
-use Rattle.laws_offsets.specs.Stream.{FirstByte, StreamOffset}
+use Rattle.laws_offsets.specs.Stream.{FirstByte, ArgumentAt, StreamOffset}
 use Rattle.laws_offsets.specs.Lists.{ListOffset, QueryOffset}
 
 -- 1: "stream over 16,777,216 bytes, list over 65,536, query over 8,192; offset 0". A stream and a list of which this is not so:
@@ -60,7 +60,9 @@ pub record Said (s list q : List ℕ) (n at : ℕ) : Type 0 where
   -- (the reader and the rewriter have no query, so an empty one here)
   pub of-1 : n ≡ 1 → (at ≡ 0) × ((16_777_216 < length s) ⊎ (65_536 < length list) ⊎ (8_192 < length q))
   pub of-2 : n ≡ 2 → ListOffset list at
-  pub of-3-to-10 : 3 ≤ n → n ≤ 10 → FirstByte s at
+  pub of-3-to-5 : 3 ≤ n → n ≤ 5 → FirstByte s at
+  pub of-6 : n ≡ 6 → ArgumentAt s at
+  pub of-7-to-10 : 7 ≤ n → n ≤ 10 → FirstByte s at
   pub of-11 : n ≡ 11 → at ≡ length s
   pub of-12 : n ≡ 12 → QueryOffset q at
   pub of-13 : n ≡ 13 → at ≡ 0

@@ -1,5 +1,5 @@
 -- Places of a stream, said of its bytes (document 01, "Refusal numbers and their order"): "Offset: first byte of the command at
--- fault, unless said."
+-- fault, unless said." 2026-12: "For refusal 6 the offset is now the first byte of the argument outside its limit".
 use Prim.Native.Nat.{ℕ, _+_, _<_, _≤_}
 use mathlib.Core.Bool.{true, false}
 use mathlib.Core.List.{List}
@@ -36,6 +36,14 @@ pub record FirstByte (s : List ℕ) (at : ℕ) : Type 0 where
   pub no-white : isWhite (byteAt s at) ≡ false
   pub no-comment : is "#" (byteAt s at) ≡ false
 
+-- 2026-12: the place at which refusal 6 of the command at another place points
+pub record ArgumentAt (s : List ℕ) (at : ℕ) : Type 0 where
+  pub place : ℕ
+  pub first : FirstByte s place
+  pub behind : ℕ
+  pub offset : at ≡ place + behind
+  pub refused : commandAt s place ≡ bad 6 behind
+
 -- ---- "the command at fault"
 
 -- The commands up to a place have been read, with these widths, and this is the environment behind them.
@@ -46,22 +54,24 @@ pub data ReadTo (w : Widths) (s : List ℕ) : ℕ → Env → Type 0 where
   past-command : (at : ℕ) (e d : Env) (c : Cmd) (a l : ℕ) (gs : List Glyph) (xs : List Item) → ReadTo w s at e
       → commandAt s at ≡ got c a l → perform e (acts w e c) ≡ went d gs xs → ReadTo w s (at + l) d
 
--- What stands at a place is at fault in this environment, with this number: 3 to 6 as it is written, 7 to 10 by what it does; behind
--- `x s` "a byte of anything" is 7, whatever is written there.
-pub data Fault (w : Widths) (s : List ℕ) (at : ℕ) (e : Env) : ℕ → Type 0 where
-  as-written : (n k : ℕ) → commandAt s at ≡ bad n k → stopped e ≡ false → 3 ≤ n → n ≤ 6 → Fault w s at e n
-  as-done : (n : ℕ) (c : Cmd) (a l : ℕ) → commandAt s at ≡ got c a l → perform e (acts w e c) ≡ refused n → 7 ≤ n → n ≤ 10 → Fault w s at e n
-  behind-stop : (n k : ℕ) → commandAt s at ≡ bad n k → stopped e ≡ true → Fault w s at e 7
+-- What stands at a place p is at fault in this environment, with this number and offset: 3 to 5 as it is written; 6 by an argument; 7 to
+-- 10 by what it does; behind `x s` "a byte of anything" is 7, whatever is written there.
+pub data Fault (w : Widths) (s : List ℕ) (p : ℕ) (e : Env) : ℕ → ℕ → Type 0 where
+  as-written : (n k : ℕ) → commandAt s p ≡ bad n k → stopped e ≡ false → 3 ≤ n → n ≤ 5 → Fault w s p e n p
+  by-argument : (k : ℕ) → commandAt s p ≡ bad 6 k → stopped e ≡ false → Fault w s p e 6 (p + k)
+  as-done : (n : ℕ) (c : Cmd) (a l : ℕ) → commandAt s p ≡ got c a l → perform e (acts w e c) ≡ refused n → 7 ≤ n → n ≤ 10 → Fault w s p e n p
+  behind-stop : (n k : ℕ) → commandAt s p ≡ bad n k → stopped e ≡ true → Fault w s p e 7 p
 
 pub record AtFault (w : Widths) (s : List ℕ) (n at : ℕ) : Type 0 where
-  pub first : FirstByte s at
+  pub place : ℕ
+  pub first : FirstByte s place
   pub env : Env
-  pub read-to : ReadTo w s at env
-  pub fault : Fault w s at env n
+  pub read-to : ReadTo w s place env
+  pub fault : Fault w s place env n at
   -- "nothing else is judged there"
   pub after-stop : stopped env ≡ true → n ≡ 7
 
--- What a refusal of a stream points at: 3 to 10 at the command at fault; "no `x s`; offset is the length" is 11.
+-- What a refusal of a stream points at: 3 to 10 at the command at fault, or in it; "no `x s`; offset is the length" is 11.
 pub data StreamOffset (w : Widths) (s : List ℕ) : ℕ → ℕ → Type 0 where
   at-command : (n at : ℕ) → AtFault w s n at → StreamOffset w s n at
   at-end : (e : Env) → ReadTo w s (length s) e → stopped e ≡ false → StreamOffset w s 11 (length s)

@@ -45,7 +45,7 @@ module _ (w : Widths) where
   pub ended : (cs : Cmds) (e : Env) → isAccepted (follow w e cs) ≡ true → Ended cs
   unfolding follow
   ended (done at) e h = tt
-  ended (wrong n at) e h = no h
+  ended (wrong n at k) e h = on (stopped e) (λ q. no (rw q at h)) (λ q. no (rw q at h))
   ended (next c at a l more) e h = go (perform e (acts w e c)) (λ d k. ended more d k) h
     where
       go : (x : Step) → ((d : Env) → isAccepted (follow w d more) ≡ true → Ended more) → isAccepted (goOn at a l (λ d. follow w d more) x) ≡ true → Ended more
@@ -55,7 +55,7 @@ module _ (w : Widths) where
   pub seen-follow : (cs : Cmds) (e : Env) → Ended cs → seen (follow w e cs) ≡ finish (steps w e (bare cs))
   unfolding follow steps
   seen-follow (done at) e h = on (stopped e) (λ k. rw k) (λ k. rw k)
-  seen-follow (wrong n at) e h = absurd h
+  seen-follow (wrong n at k) e h = absurd h
   seen-follow (next c at a l more) e h = go (perform e (acts w e c)) (λ d. seen-follow more d h)
     where
       go : (x : Step) → ((d : Env) → seen (follow w d more) ≡ finish (steps w d (bare more)))

@@ -179,7 +179,7 @@ module _ (w : Widths) where
   pub played-fair : (cs : Cmds) (e : Env) → AllCmds cs → AllFair (played w e (bare cs))
   unfolding played
   played-fair (done at) e g = tt
-  played-fair (wrong n at) e g = tt
+  played-fair (wrong n at k) e g = tt
   played-fair (next c at a l more) e g = all (acts w e c) (acts-fair e c (g .0)) (λ d. played-fair more d (g .1))
     where
       some-of : (x : Step) → ((d : Env) → AllFair (played w d (bare more))) → AllFair (onward (λ d. played w d (bare more)) x)

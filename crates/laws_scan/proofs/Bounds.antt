@@ -452,3 +452,19 @@ command-in b r = judged-in (b ∷ r) (letter b r) (letter-in b r)
 
 pub command-within : (b : ℕ) (r : List ℕ) (c : Cmd) (a l : ℕ) → command b r ≡ got c a l → (1 ≤ l) × (l ≤ suc (length r)) × (a ≤ l)
 command-within b r c a l e = let h : GotIn (b ∷ r) c a l = rw e at (command-in b r) in (h .some, h .most, omega (arith, h .name))
+
+-- a refusal points at the command's first byte, unless it is 6
+abbrev Pointing : Scan → Type 0
+Pointing (bad n k) = (n ≡ 6 → ⊥) → k ≡ 0
+Pointing (got c a l) = Unit {0}
+
+judged-points : (x : Draft) → Pointing (judged x)
+judged-points (fault n) = λ h. refl
+judged-points (draft c ds ks a l t) = go (outside (cmdLimits c ++ map isSmall ds) ks)
+  where
+    go : (o : Option ℕ) → Pointing (judgedBy c a l o)
+    go none = tt
+    go (some k) = λ h. absurd (h refl)
+
+pub bad-place : (b : ℕ) (r : List ℕ) (n k : ℕ) → command b r ≡ bad n k → (n ≡ 6 → ⊥) → k ≡ 0
+bad-place b r n k e = let h : Pointing (bad n k) = rw e at (judged-points (letter b r)) in h

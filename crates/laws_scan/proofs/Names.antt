@@ -25,7 +25,7 @@ use Rattle.laws_scan.proofs.Bounds.{Stands, actName, nameOf, name-stand
 -- each command's name stands at its place, and the command ends within s
 abbrev pub AllStand : List ℕ → Cmds → Type 0
 AllStand s (done at) = Unit {0}
-AllStand s (wrong n at) = Unit {0}
+AllStand s (wrong n at k) = Unit {0}
 AllStand s (next c at a l more) = Stands (nameOf c) a s × (at + l ≤ length s) × AllStand s more
 
 one-stands : (s : List ℕ) (at b : ℕ) (r : List ℕ) (go : ℕ → Cmds) (x : Scan) → drop at s ≡ b ∷ r → ((k : ℕ) → AllStand s (go k)) → Within (b ∷ r) x
@@ -219,7 +219,7 @@ module _ (w : Widths) (s : List ℕ) where
   pub follow-rows : (cs : Cmds) (e : Env) → AllStand s cs → RowsOf s (follow w e cs)
   unfolding follow
   follow-rows (done at) e h = if-both (RowsOf s) (stopped e) _ _ (tt, tt) tt
-  follow-rows (wrong n at) e h = tt
+  follow-rows (wrong n at k) e h = if-both (RowsOf s) (stopped e) _ _ tt tt
   follow-rows (next c at a l more) e h = go (perform e (acts w e c)) (step-cats w e c) (λ d. follow-rows more d (h .2))
     where
       go : (x : Step) → Cats (nameOf c) x → ((d : Env) → RowsOf s (follow w d more)) → RowsOf s (goOn at a l (λ d. follow w d more) x)

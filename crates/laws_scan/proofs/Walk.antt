@@ -59,7 +59,7 @@ module _ (s : List ℕ) (at : ℕ) where
           (passed h (oneLine (drop (at + 1) s)) e (omega (arith, comment-in)) q)
 
       module _ (p : is "#" (getD s at 0) ≡ false) where
-        pub from-bad : (n k : ℕ) → command (getD s at 0) (drop (at + 1) s) ≡ bad n k → from s at ≡ wrong n at
+        pub from-bad : (n k : ℕ) → command (getD s at 0) (drop (at + 1) s) ≡ bad n k → from s at ≡ wrong n at k
         unfolding commands
         from-bad n k e = rw (cons-at s at h, w, p, e)
 

@@ -17,7 +17,7 @@ use Rattle.read_model.specs.declared.State.{State}
 use Rattle.read_model.specs.declared.Effect.{Effect}
 use Rattle.read_model.specs.declared.Effect.the-variants as F
 use Rattle.read_model.specs.declared.Turned.{Turned}
-use Rattle.read_model.specs.Turns.{halted, goneTo, filling, emitted, doneOf, skipped}
+use Rattle.read_model.specs.Turns.{haltedAt, halted, goneTo, filling, emitted, pointOf, doneOf, skipped}
 use Rattle.read_count.specs.Room.{hasRoom}
 
 module _ (st : State) (x : Emitted) where
@@ -73,7 +73,14 @@ module _ (n next : ℕ) (st : State) where
     pub done-full : (b : Bool) → d .refusal ≡ 0 → b ≡ hasRoom st (d .emitted) → b ≡ false → t ≡ halted st 13 → t ≡ doneOf n st next d
     done-full b h g f p = rw (eq-eqb (d .refusal) 0 h, full-out (d .env) (d .emitted) t (sym g ∙ f) p)
 
-    pub done-off : (d .refusal ≡ 0 → ⊥) → t ≡ halted st (d .refusal) → t ≡ doneOf n st next d
-    done-off h p = rw (ne-eqb (d .refusal) 0 h, p)
+    pub done-off : (p : ℕ) → (d .refusal ≡ 0 → ⊥) → p ≡ pointOf (st .at) next (d .refusal) → t ≡ haltedAt p st (d .refusal) → t ≡ doneOf n st next d
+    done-off p h q e = rw (ne-eqb (d .refusal) 0 h, e, q)
 
-pub ruleset counting = (skipped-is, by-room, is-room, record-room, entry-room, word-room, record-fits, entry-fits, word-fits, nothing-out, something-out, done-on, done-full, done-off, needs)
+-- where a refusal points
+pub point-argument : (at next k : ℕ) → k ≡ 6 → next ≡ pointOf at next k
+point-argument at next k h = rw (eq-eqb k 6 h)
+
+pub point-command : (at next k : ℕ) → (k ≡ 6 → ⊥) → at ≡ pointOf at next k
+point-command at next k h = rw (ne-eqb k 6 h)
+
+pub ruleset counting = (point-argument, point-command, skipped-is, by-room, is-room, record-room, entry-room, word-room, record-fits, entry-fits, word-fits, nothing-out, something-out, done-on, done-full, done-off, needs)

@@ -12,14 +12,16 @@ ghost use mathlib.Core.Bool.{true};
 ghost use mathlib.Core.Path.{_≡_};
 ghost use Prim.Native.Nat.{_-_, _≤_, _<_};
 ghost use Rattle.read_model.specs.declared.Emitted.the-variants as E;
-ghost use Rattle.read_model.specs.Turns.{halted, goneTo, filling, emitted, doneOf, skipped};
+ghost use Rattle.read_model.specs.Turns.{haltedAt, goneTo, filling, emitted, pointOf, doneOf, skipped};
 ghost use Rattle.read_count.specs.Room.{hasRoom};
 
-fn halted(st: State, k: u32) -> Turned
-    ensures { λ r. ⌜ r ≡ halted st k ⌝ }
+// The state that stops with the refusal k, which points at a place.
+fn halted(at: usize, st: State, k: u32) -> Turned
+    ensures { λ r. ⌜ r ≡ haltedAt at st k ⌝ }
 {
     let mut d = st;
     d.left = 0;
+    d.at = at;
     d.refusal = k;
     Turned {
         effect: Effect::Nothing,
@@ -131,6 +133,13 @@ fn put_out(n: usize, st: State, next: usize, e: Environment, x: Emitted) -> Turn
     }
 }
 
+// Where the refusal k of a command points: 6 at the argument, which is next.
+fn point(at: usize, next: usize, k: u32) -> usize
+    ensures { λ r. ⌜ r ≡ pointOf at next k ⌝ }
+{
+    if k == 6 { next } else { at }
+}
+
 // The state behind a command: its refusal, or 13 where a row has no room. Room is asked for before the new state is made: a function
 // that copies the environment from one of two places in the same way keeps the whole state in memory, at a great cost in time.
 pub fn done(n: usize, st: State, next: usize, d: Did) -> Turned
@@ -143,9 +152,10 @@ pub fn done(n: usize, st: State, next: usize, d: Did) -> Turned
         if has_room(st, x) {
             put_out(n, st, next, e, x)
         } else {
-            halted(st, 13)
+            halted(st.at, st, 13)
         }
     } else {
-        halted(st, d.refusal)
+        let at = point(st.at, next, d.refusal);
+        halted(at, st, d.refusal)
     }
 }

@@ -51,7 +51,7 @@ in-any at n (C.Mount i p l q) w m = (ends at n q (w .0) m, w .1, w .2)
 in-any at n (C.Plain b q) w m = ends at n q w m
 in-any at n (C.Raw q) w m = ends at n q w m
 in-any at n (C.Stop q) w m = ends at n q w m
-in-any at n (C.Refused i p) w m = w
+in-any at n (C.Refused i p) w m = (w .0, w .1, omega (arith, w .2))
 
 module _ (at n : ℕ) (c : Command) (i : CommandIn at n c) (m : n ≤ 16777216) where
   pub glyph-place : (p l q : ℕ) → c ≡ C.Glyph p l q → p + l ≤ 16777216

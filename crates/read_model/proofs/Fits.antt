@@ -125,7 +125,7 @@ unfolding commandAt
 command-fits s at h = go (command (getD s at 0) (drop (at + 1) s)) (command-good (getD s at 0) (drop (at + 1) s)) (command-in (getD s at 0) (drop (at + 1) s))
   where
     go : (x : Scan) → GoodScan x → Within (getD s at 0 ∷ drop (at + 1) s) x → CommandIn at (length s) (commandOf at x)
-    go (bad k j) g w = g
+    go (bad k j) g w = (g, omega arith, omega (arith, w, length-drop (at + 1) s))
     go (got c a l) g w =
         cmd-in at (length s) (at + l) (omega (arith, w .some), omega (arith, w .most, length-drop (at + 1) s)) (at + a) c g (omega arith) (omega (arith, w .name))
 

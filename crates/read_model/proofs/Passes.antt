@@ -9,7 +9,7 @@ use mathlib.Core.Path.{_≡_, refl, sym, ap, ap₂, _∙_}
 use lib.Dec.{ltb, eqb}
 use lib.ListN.{length, take, drop, getD, length-append}
 use lib.Seq.{drop-drop}
-use borrow.Author.Tests.{eq-eqb, ne-eqb}
+use borrow.Author.Tests.{eqb-false, eq-eqb, ne-eqb}
 use Rattle.rules.specs.declared.Record.{Record}
 use Rattle.rules.specs.declared.Entry.{Entry}
 use Rattle.rules.specs.Bytes.{if_then_else_, is, isWhite, oneLine}
@@ -22,8 +22,9 @@ use Rattle.scan_command.specs.declared.Command.{Command}
 use Rattle.scan_command.specs.View.{cmdOf, commandAt}
 use Rattle.laws.proofs.Cases.{on, if-both}
 use Rattle.laws.proofs.Good.{GoodCmd}
+use Rattle.laws_read.proofs.Numbers.{StepIn, step-in}
 use Rattle.laws_scan.proofs.Fair.{GoodScan, command-good}
-use Rattle.laws_scan.proofs.Bounds.{Within, GotIn, command-in, textOf}
+use Rattle.laws_scan.proofs.Bounds.{Within, GotIn, command-in, bad-place, textOf}
 use Rattle.laws_scan.proofs.Walk.{from, cons-at, comment-in, got-in, from-end, from-white, from-comment, from-bad, from-got}
 use Rattle.read_model.specs.declared.Environment.{Environment}
 use Rattle.read_model.specs.declared.Did.{Did}
@@ -33,7 +34,7 @@ use Rattle.read_model.specs.declared.Effect.the-variants as F
 use Rattle.read_model.specs.declared.State.{State}
 use Rattle.read_model.specs.declared.Turned.{Turned}
 use Rattle.read_model.specs.Environment.{envOf}
-use Rattle.read_model.specs.Turns.{didAt, nextOf, scratchAfter, halted, goneTo, fillsRecords, fillsEntries, emitted, doneOf, skipped, turnOn, turnOf, scratchOf}
+use Rattle.read_model.specs.Turns.{didAt, nextOf, scratchAfter, haltedAt, halted, goneTo, fillsRecords, fillsEntries, emitted, pointOf, doneOf, skipped, turnOn, turnOf, scratchOf}
 use Rattle.read_model.specs.Passes.{ReadPass, recordsAfter, entriesAfter, readStepOf, readPassFor}
 use Rattle.read_model.proofs.Acts.{Agrees, recordsIn, entriesIn}
 use Rattle.read_model.proofs.Commands.{mountsAfterCmd}
@@ -350,21 +351,24 @@ module _ (w : Widths) (find : List ℕ → ℕ) (s : List ℕ) (y : (i : ℕ) �
         skips (p .state .at + 1 + oneLine (drop (p .state .at + 1) s)) (rw (e, k)) (rw (e, k)) (omega arith) (comment-in s (p .state .at) h) (from-comment s (p .state .at) h e k _ refl)
 
     module _ (e : isWhite (getD s (p .state .at) 0) ≡ false) (k : is "#" (getD s (p .state .at) 0) ≡ false) where
-      -- the pass stops with the number x
-      stops : (x : ℕ) → 0 < x → turnOf s (p .scratch) (p .state) ≡ halted (p .state) x → readsFrom ms (p .state) ≡ refuse x (p .state .at)
+      -- the pass stops with the number x, which points at a place
+      stops : (x to : ℕ) → 0 < x → turnOf s (p .scratch) (p .state) ≡ haltedAt to (p .state) x → readsFrom ms (p .state) ≡ refuse x to
           → Ended (readsFrom ms (p .state)) p (readPassFor (suc f) find s p)
-      stops x z t q = rw (q, one-turn, stays f find s (readStepOf find s p) (rw t), t) (inl (refl, z, refl))
+      stops x to z t q = rw (q, one-turn, stays f find s (readStepOf find s p) (rw t), t) (inl (refl, z, refl))
 
-      number-some : (b : Bool) (n : ℕ) → 0 < n → 0 < (if b then 7 else n)
-      number-some true n z = omega arith
-      number-some false n z = z
+      -- 6 points at an argument, any other number at the command
+      point-is : (n j : ℕ) → command (getD s (p .state .at) 0) (drop (p .state .at + 1) s) ≡ bad n j → pointOf (p .state .at) (p .state .at + j) n ≡ p .state .at + j
+      point-is n j q =
+          on (eqb n 6) (λ i. rw i)
+          (λ i. rw (i, bad-place (getD s (p .state .at) 0) (drop (p .state .at + 1) s) n j q (eqb-false n 6 i), add-zero))
 
       refuses : (n j : ℕ) → command (getD s (p .state .at) 0) (drop (p .state .at + 1) s) ≡ bad n j → Ended (readsFrom ms (p .state)) p (readPassFor (suc f) find s p)
       unfolding turnOf commandAt follow
       refuses n j q =
-          let x : ℕ = if eqb (p .state .env .phase) 4 then 7 else n in
-          let z : 0 < x = number-some (eqb (p .state .env .phase) 4) n (rw q at (command-good (getD s (p .state .at) 0) (drop (p .state .at + 1) s))) in
-          stops x z (rw (e, k, q, ne-eqb x 0 (λ i. omega arith))) (rw (from-bad s (p .state .at) h e k n j q))
+          let z : 0 < n = rw q at (command-good (getD s (p .state .at) 0) (drop (p .state .at + 1) s)) in
+          on (eqb (p .state .env .phase) 4)
+          (λ x. stops 7 (p .state .at) (omega arith) (rw (e, k, q, x)) (rw (from-bad s (p .state .at) h e k n j q, x)))
+          (λ x. stops n (p .state .at + j) z (rw (e, k, q, x, ne-eqb n 0 (λ i. omega arith), point-is n j q)) (rw (from-bad s (p .state .at) h e k n j q, x)))
 
       module _ (c : Cmd) (a l′ : ℕ) (q : command (getD s (p .state .at) 0) (drop (p .state .at + 1) s) ≡ got c a l′) where
         here : Here w find s ms (p .scratch) (p .state) c a l′
@@ -376,7 +380,8 @@ module _ (w : Widths) (find : List ℕ → ℕ) (s : List ℕ) (y : (i : ℕ) �
         goes-on : (x : Step) → perform (envOf (p .state .env) ms) (acts w (envOf (p .state .env) ms) c) ≡ x → Agrees s (p .scratch) (mountsAfterCmd c ms) (p .state .at) (p .state .at + a) l′ x did
             → Ended (readsFrom ms (p .state)) p (readPassFor (suc f) find s p)
         goes-on (refused n) z t =
-            stops n (t .1) (here .turn ∙ rw (t .0, ne-eqb n 0 (λ i. let o : 0 < n = t .1 in omega arith))) (here .follows ∙ rw z)
+            let o : StepIn (refused n) = rw z at (step-in w (envOf (p .state .env) ms) c) in
+            stops n (p .state .at) (t .1) (here .turn ∙ rw (t .0, ne-eqb n 0 (λ i. omega (arith, o .0)), ne-eqb n 6 (λ i. omega (arith, o .0)))) (here .follows ∙ rw z)
         goes-on (went d gs ys) z t =
             let rs : List GlyphRow = glyphRows (p .state .at + a) gs in
             let xs : List ItemRow = itemRows (p .state .at) l′ ys in
@@ -426,7 +431,7 @@ module _ (find : List ℕ → ℕ) (s : List ℕ) where
   emitted-idle n st to e (E.Word d) h = if-both Idle (ltb (st .rmax - st .records) (d .left)) (halted st 13) _ (refl, h) (rw h (refl, refl))
 
   done-idle : (n : ℕ) (st : State) (to : ℕ) (d : Did) → st .fill ≡ 0 → Idle (doneOf n st to d)
-  done-idle n st to d h = if-both Idle (eqb (d .refusal) 0) (emitted n st to (d .env) (d .emitted)) (halted st (d .refusal)) (emitted-idle n st to (d .env) (d .emitted) h) (refl, h)
+  done-idle n st to d h = if-both Idle (eqb (d .refusal) 0) (emitted n st to (d .env) (d .emitted)) (haltedAt (pointOf (st .at) to (d .refusal)) st (d .refusal)) (emitted-idle n st to (d .env) (d .emitted) h) (refl, h)
 
   turn-idle : (ws : List ℕ) (st : State) → st .fill ≡ 0 → Idle (turnOf s ws st)
   unfolding turnOf

@@ -47,7 +47,7 @@ CommandIn at n (C.Mount i p l q) = Ends at n q × (i < 256) × (p + l ≤ q)
 CommandIn at n (C.Plain b q) = Ends at n q
 CommandIn at n (C.Raw q) = Ends at n q
 CommandIn at n (C.Stop q) = Ends at n q
-CommandIn at n (C.Refused i p) = 0 < i
+CommandIn at n (C.Refused i p) = (0 < i) × (at ≤ p) × (p ≤ n)
 
 abbrev pub isRefused : Command → Bool
 isRefused (C.Glyph p l q) = false

@@ -90,7 +90,7 @@ wordAsked s ws u e (C.Refused i p) = refusing e 7
 abbrev pub didAt : List ℕ → List ℕ → ℕ → Environment → ℕ → Command → Did
 didAt s ws u e at c = didOf e at (askedMount ws c) (wordAsked s ws u e c) c
 
--- the place behind a command
+-- the place behind a command, or at which the refusal of one points
 abbrev pub nextOf : Command → ℕ
 nextOf (C.Glyph p l n) = n
 nextOf (C.Index i n) = n
@@ -115,7 +115,7 @@ nextOf (C.Mount i p l n) = n
 nextOf (C.Plain b n) = n
 nextOf (C.Raw n) = n
 nextOf (C.Stop n) = n
-nextOf (C.Refused i p) = 0
+nextOf (C.Refused i p) = p
 
 -- the scratch row behind a command: `x f` in the body mounts the font whose slot `find` gives for the name
 abbrev pub scratchAfter : (List ℕ → ℕ) → List ℕ → List ℕ → Environment → Command → List ℕ
@@ -146,8 +146,13 @@ scratchAfter find s ws e (C.Refused i p) = ws
 
 -- ---- the state
 
+-- stopped with the refusal k, which points at a place
+abbrev pub haltedAt : ℕ → State → ℕ → Turned
+haltedAt p st k = record { effect = F.Nothing; state = record { left = 0; at = p; records = st .records; rmax = st .rmax; entries = st .entries; emax = st .emax; fonts = st .fonts; refusal = k; fill = st .fill; unitwidth = st .unitwidth; env = st .env } }
+
+-- the refusal points at the command itself
 abbrev pub halted : State → ℕ → Turned
-halted st k = record { effect = F.Nothing; state = record { left = 0; at = st .at; records = st .records; rmax = st .rmax; entries = st .entries; emax = st .emax; fonts = st .fonts; refusal = k; fill = st .fill; unitwidth = st .unitwidth; env = st .env } }
+halted st k = haltedAt (st .at) st k
 
 -- on to the place next of a stream of n bytes, with the numbers of records and entries, and the environment
 abbrev pub goneTo : ℕ → State → ℕ → ℕ → ℕ → Environment → State
@@ -172,8 +177,12 @@ emitted n st next e (E.Entry x) =
 emitted n st next e (E.Word w) =
     if ltb (st .rmax - st .records) (w .left) then halted st 13 else record { effect = filling (fillsRecords (st .fill)) (F.Word (st .records) w); state = goneTo n st next (st .records + w .left) (st .entries) e }
 
+-- "For refusal 6 the offset is now the first byte of the argument outside its limit" (2026-12)
+abbrev pub pointOf : ℕ → ℕ → ℕ → ℕ
+pointOf at next k = if eqb k 6 then next else at
+
 abbrev pub doneOf : ℕ → State → ℕ → Did → Turned
-doneOf n st next d = if eqb (d .refusal) 0 then emitted n st next (d .env) (d .emitted) else halted st (d .refusal)
+doneOf n st next d = if eqb (d .refusal) 0 then emitted n st next (d .env) (d .emitted) else haltedAt (pointOf (st .at) next (d .refusal)) st (d .refusal)
 
 abbrev pub skipped : ℕ → State → ℕ → Turned
 skipped n st next = record { effect = F.Nothing; state = goneTo n st next (st .records) (st .entries) (st .env) }

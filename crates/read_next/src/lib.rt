@@ -3,7 +3,7 @@ use scan_command::Command;
 ghost use mathlib.Core.Path.{_≡_};
 ghost use Rattle.read_model.specs.Turns.{nextOf};
 
-// The place behind a command.
+// The place behind a command, or at which the refusal of one points.
 pub fn next_of(c: Command) -> usize
     ensures { λ r. ⌜ r ≡ nextOf c ⌝ }
 {
@@ -31,6 +31,6 @@ pub fn next_of(c: Command) -> usize
         Command::Plain { next, .. } => next,
         Command::Raw { next } => next,
         Command::Stop { next } => next,
-        Command::Refused { .. } => 0,
+        Command::Refused { place, .. } => place,
     }
 }

@@ -29,12 +29,12 @@ use Rattle.read_model.specs.declared.Turned.{Turned}
 use Rattle.read_model.specs.Environment.{refusing, doing, onPage, inBody, isSet, mayMove, mayGo, glyphOn, indexOn, pairOn, toOn, byOn, fontOn, drawOn, recordOn, withSpot, withGap, drawingHere, controlHere}
 use Rattle.read_model.specs.Words.{allWide, wordHere, wordEnd, wordOn, wordTo}
 use Rattle.read_model.specs.Fits.{EnvFits, Ends, CommandIn, isRefused}
-use Rattle.read_model.specs.Turns.{mountAt, blockNow, didAt, nextOf, scratchAfter, halted, goneTo, filling, fillsRecords, fillsEntries, emitted, doneOf, skipped, turnOn, turnOf, scratchOf}
+use Rattle.read_model.specs.Turns.{mountAt, blockNow, didAt, nextOf, scratchAfter, haltedAt, halted, goneTo, filling, fillsRecords, fillsEntries, emitted, pointOf, doneOf, skipped, turnOn, turnOf, scratchOf}
 use Rattle.read_model.proofs.Fits.{command-fits, did-fits, later}
 use Rattle.read_environment.specs.Bounds.{Fits}
 use Rattle.read_word.specs.Bounds.{Small, WordFits}
 use Rattle.read_word.proofs.Spelling.{here-fits}
-use Rattle.read_next.proofs.Places.{next-most}
+use Rattle.read_next.proofs.Places.{next-least, next-most}
 use Rattle.read_turn.specs.Ready.{findIn, Scratch, Ready}
 use Rattle.read_mount.proofs.Mounts.{found-most}
 
@@ -122,8 +122,11 @@ pub record Well (s ws : List ℕ) (st : State) (t : Turned) : Type 0 where
   pub rows : InRows s ws st (t .effect)
 
 module _ (s ws : List ℕ) (st : State) (r : Ready (length s) st) where
-  halted-well : (k : ℕ) → Well s ws st (halted st k)
-  halted-well k = record { less = r .some; ready = λ h. absurd (let z : 0 < 0 = h in omega arith); fill = refl; rmax = refl; emax = refl; fonts = refl; unit = refl; fits = r .fits; rows = tt }
+  halted-well : (p k : ℕ) → st .at ≤ p → Well s ws st (haltedAt p st k)
+  halted-well p k l = record { less = r .some; ready = λ h. absurd (let z : 0 < 0 = h in omega arith); fill = refl; rmax = refl; emax = refl; fonts = refl; unit = refl; fits = later (st .at) p (st .env) l (r .fits); rows = tt }
+
+  full-well : Well s ws st (halted st 13)
+  full-well = halted-well (st .at) 13 (omega arith)
 
   -- behind the place
   module _ (next : ℕ) (l : st .at < next) (h : next ≤ length s) (e : Environment) (f : EnvFits next e) where
@@ -149,13 +152,13 @@ module _ (s ws : List ℕ) (st : State) (r : Ready (length s) st) where
     emitted-well (E.Record y) g =
         if-on (Well s ws st) (ltb (st .records) (st .rmax)) _ (halted st 13)
         (λ z. let q : st .records < st .rmax = ltb-true (st .records) (st .rmax) z in gone-well _ (st .records + 1) (st .entries) (omega arith) (r .entries) (filled (fillsRecords (st .fill)) (F.Record (st .records) y) (λ b. (b, q))))
-        (λ z. halted-well 13)
+        (λ z. full-well)
     emitted-well (E.Entry y) g =
         if-on (Well s ws st) (ltb (st .entries) (st .emax)) _ (halted st 13)
         (λ z. let q : st .entries < st .emax = ltb-true (st .entries) (st .emax) z in gone-well _ (st .records) (st .entries + 1) (r .records) (omega arith) (filled (fillsEntries (st .fill)) (F.Entry (st .entries) y) (λ b. (b, q))))
-        (λ z. halted-well 13)
+        (λ z. full-well)
     emitted-well (E.Word d) g =
-        if-on (Well s ws st) (ltb (st .rmax - st .records) (d .left)) (halted st 13) _ (λ z. halted-well 13)
+        if-on (Well s ws st) (ltb (st .rmax - st .records) (d .left)) (halted st 13) _ (λ z. full-well)
         (λ z.
         let q : d .left ≤ st .rmax - st .records = ltb-false (st .rmax - st .records) (d .left) z in
         let m : st .records + d .left ≤ st .rmax = omega (arith, r .records) in
@@ -191,6 +194,10 @@ module _ (s ws : List ℕ) (st : State) (r : Ready (length s) st) where
   ends-behind at n (C.Stop q) i z = i .0
   ends-behind at n (C.Refused k p) i z = impossible (sym z)
 
+  -- nor does the refusal of one point before it
+  points-behind : (c : Command) (k : ℕ) → CommandIn (st .at) (length s) c → st .at ≤ pointOf (st .at) (nextOf c) k
+  points-behind c k i = if-both (λ (p : ℕ). st .at ≤ p) (eqb k 6) (nextOf c) (st .at) (next-least (st .at) (length s) c i) (omega arith)
+
 -- a refused command is refused
 went-on : (s ws : List ℕ) (u : ℕ) (e : Environment) (at n : ℕ) (c : Command) → CommandIn at n c → didAt s ws u e at c .refusal ≡ 0 → isRefused c ≡ false
 went-on s ws u e at n (C.Glyph p l q) i z = refl
@@ -216,7 +223,7 @@ went-on s ws u e at n (C.Mount k p l q) i z = refl
 went-on s ws u e at n (C.Plain b q) i z = refl
 went-on s ws u e at n (C.Raw q) i z = refl
 went-on s ws u e at n (C.Stop q) i z = refl
-went-on s ws u e at n (C.Refused k p) i z = absurd (some (eqb (e .phase) 4) (let y : 0 < k = i in y) z)
+went-on s ws u e at n (C.Refused k p) i z = absurd (some (eqb (e .phase) 4) (i .0) z)
   where
     some : (b : Bool) → 0 < k → (if b then 7 else k) ≡ 0 → ⊥
     some true h y = omega arith
@@ -229,13 +236,13 @@ module _ (s ws : List ℕ) (st : State) (r : Ready (length s) st) (m : Small ws)
   command-well : (c : Command) → CommandIn (st .at) (length s) c → Well s ws st (turnOn s ws st c)
   command-well c i =
       let d : Did = didAt s ws (st .unitwidth) (st .env) (st .at) c in
-      if-on (Well s ws st) (eqb (d .refusal) 0) (emitted (length s) st (nextOf c) (d .env) (d .emitted)) (halted st (d .refusal))
+      if-on (Well s ws st) (eqb (d .refusal) 0) (emitted (length s) st (nextOf c) (d .env) (d .emitted)) (haltedAt (pointOf (st .at) (nextOf c) (d .refusal)) st (d .refusal))
       (λ z.
       let g : isRefused c ≡ false = went-on s ws (st .unitwidth) (st .env) (st .at) (length s) c i (eqb-true (d .refusal) 0 z) in
       emitted-well s ws st r (nextOf c) (ends-behind s ws st r (st .at) (length s) c i g) (next-most (st .at) (length s) (nextOf c) c i refl) (d .env)
       (did-fits s ws (st .unitwidth) (st .at) (length s) (st .env) (r .fits) c i g) (d .emitted)
       (did-gives s ws (st .env) (st .unitwidth) in-stream (r .unit-some) (r .unit-most) m (st .at) (length s) c (r .most) i))
-      (λ z. halted-well s ws st r (d .refusal))
+      (λ z. halted-well s ws st r (pointOf (st .at) (nextOf c) (d .refusal)) (d .refusal) (points-behind s ws st r c (d .refusal) i))
 
   pub turn-well : Well s ws st (turnOf s ws st)
   unfolding turnOf

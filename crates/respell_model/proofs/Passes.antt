@@ -209,7 +209,7 @@ module _ (w : Widths) (find : List ℕ → ℕ) (s : List ℕ) (y : (i : ℕ) �
     module _ (e : isWhite (getD s (p .state .at) 0) ≡ false) (k : is "#" (getD s (p .state .at) 0) ≡ false) where
       refuses : (n j : ℕ) → command (getD s (p .state .at) 0) (drop (p .state .at + 1) s) ≡ bad n j → Written ms p (respellPassFor (suc f) find s p)
       unfolding follow
-      refuses n j q = absurd (rw (from-bad s (p .state .at) h e k n j q) at ok)
+      refuses n j q = on (eqb (p .state .env .phase) 4) (λ x. absurd (rw (from-bad s (p .state .at) h e k n j q, x) at ok)) (λ x. absurd (rw (from-bad s (p .state .at) h e k n j q, x) at ok))
 
       module _ (c : Cmd) (a l′ : ℕ) (q : command (getD s (p .state .at) 0) (drop (p .state .at + 1) s) ≡ got c a l′) where
         at-here : Here w find s ms (p .scratch) (p .state) c a l′

@@ -5,6 +5,7 @@ use Rattle.read_count.proofs.done.Reads as reads
 use Rattle.read_count.proofs.done.Lts as lts
 use Rattle.read_count.proofs.halted.Reads as halted-reads
 use Rattle.read_count.proofs.has_room.Reads as has-room-reads
+use Rattle.read_count.proofs.point.Reads as point-reads
 use Rattle.read_count.proofs.put_out.Reads as put-out-reads
 
 has-room-requires : tie.Need-has-room-requires
@@ -15,6 +16,9 @@ put-out-requires c κs = search counting
 
 halted-requires : tie.Need-halted-requires
 halted-requires c κs = search counting
+
+point-requires : tie.Need-point-requires
+point-requires c κs = search counting
 
 halted-requires-2 : tie.Need-halted-requires-2
 halted-requires-2 c κs = search counting
@@ -35,6 +39,7 @@ done-spec =
     has-room-requires
     put-out-requires
     halted-requires
+    point-requires
     halted-requires-2
     returns
     returns-2

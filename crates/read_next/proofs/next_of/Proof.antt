@@ -73,8 +73,8 @@ enum-known-c-22 c = search places
 enum-known-c-23 : tie.Need-enum-known-c-23
 enum-known-c-23 c = search places
 
-enum-told : tie.Need-enum-told
-enum-told c = search places
+enum-known-c-24 : tie.Need-enum-known-c-24
+enum-known-c-24 c = search places
 
 returns : tie.Need-returns
 returns c = search places
@@ -175,7 +175,7 @@ next-of-spec =
     enum-known-c-21
     enum-known-c-22
     enum-known-c-23
-    enum-told
+    enum-known-c-24
     returns
     returns-2
     returns-3
