@@ -61,8 +61,9 @@ enum {
     MRKVANDEL_MALFORMED = 4,
     /* other bytes stand before the line break of `D` or `x` */
     MRKVANDEL_SURPLUS = 5,
-    /* a number, count, name or text is outside its limit; offset: the first byte of the first argument outside its limit, a dummy
-       too; for too many arguments, that of the 65th; a text begins right behind the spacer that follows the `x` word */
+    /* a number, count, name or text is outside its limit; offset: the first byte of the first argument outside its limit. Dummies and
+       the numbers of `n` are arguments, too; of `Dp`, `DP` and `D~` the 65th and all behind it are outside; a text begins right
+       behind the spacer that follows the `x` word, be it with the newline of an empty line */
     MRKVANDEL_OUTSIDE_LIMIT = 6,
     /* the prologue is out of order, or a prologue command stands later; a motion, glyph, `N` or any `D` before the first `p`; a byte
        of anything after `x s` (offset: that byte; nothing else is judged there) */

@@ -133,15 +133,16 @@ fn put_out(n: usize, st: State, next: usize, e: Environment, x: Emitted) -> Turn
     }
 }
 
-// Where the refusal k of a command points: 6 at the argument, which is next.
+// Where the refusal k of the command at a place points: 6 at an argument, whose place is next; any other at the command.
 fn point(at: usize, next: usize, k: u32) -> usize
     ensures { λ r. ⌜ r ≡ pointOf at next k ⌝ }
 {
     if k == 6 { next } else { at }
 }
 
-// The state behind a command: its refusal, or 13 where a row has no room. Room is asked for before the new state is made: a function
-// that copies the environment from one of two places in the same way keeps the whole state in memory, at a great cost in time.
+// The state behind a command, at next; or its refusal (6 has next as its place), or 13 where a row has no room. Room is asked for before
+// the new state is made: a function that copies the environment from one of two places in the same way keeps the whole state in memory,
+// at a great cost in time.
 pub fn done(n: usize, st: State, next: usize, d: Did) -> Turned
     requires { ⌜ (next ≤ n) × (st .records ≤ st .rmax) ⌝ }
     ensures { λ r. ⌜ r ≡ doneOf n st next d ⌝ }
