@@ -153,7 +153,7 @@ pub record Answer : Type 0 where
 
 -- "The reader, rewriter and finder each accept, or refuse with a number and an offset from the table in 01." (An answer is the one or the
 -- other by its type.) `ReadOffset` and `FindOffset` are the table's rows: each number with its reason (of 3 to 10, that the command at fault
--- is refused so: see `As01Gives` for 7 to 10) and what stands at its offset, where no earlier reason is there; 13 at 0 for want of room;
+-- is refused so: see `OutsideAt`, `laws_arguments`, for 6 and `As01Gives` for 7 to 10) and what stands at its offset, where no earlier reason is there; 13 at 0 for want of room;
 -- `Said` has the offsets by numbers (`laws_offsets`).
 pub record Refuse : Type 0 where
   pub reader : (s list : List ℕ) (rs : List Record) (es : List Entry) (r : Reading) (rs′ : List Record) (es′ : List Entry) (number at : ℕ)
@@ -165,8 +165,9 @@ pub record Refuse : Type 0 where
 
 -- 01: "Each is given exactly for its reason." "Order: 1, 2, 12, then the stream from its start; at one command the smallest number. 13 comes
 -- last, when all else passed." The other way: where a row of the table is there, that number and offset are answered, whatever is lent. At
--- one command (`Fault`, `laws_offsets`) that is one of 3 to 6 as it is scanned, which of them the rules say (`Scan.command`); else one of 7
--- to 10 as it is performed, the smallest that has its reason (`As01Gives`); and 7 behind `x s`. For 13 see `NoRoom`.
+-- one command (`Fault`, `laws_offsets`) that is one of 3 to 5 as it is scanned, which of them the rules say (`Scan.command`); 6 where it is
+-- complete and an argument is outside its limit (`OutsideAt`, `laws_arguments`); else one of 7 to 10 as it is performed, the smallest that
+-- has its reason (`As01Gives`); and 7 behind `x s`. For 13 see `NoRoom`.
 pub record RefuseExactly : Type 0 where
   pub reader : (s list : List ℕ) (rs : List Record) (es : List Entry) (r : Reading) (rs′ : List Record) (es′ : List Entry) (number at : ℕ)
       → ReadCall s list rs es r rs′ es′ → ReadOffset s list number at → r .answer ≡ R.Refused number at

@@ -11,6 +11,7 @@ use lib.ListN.{length, length-drop}
 use Rattle.rules.specs.Widths.{Widths}
 use Rattle.rules.specs.State.{Env}
 use Rattle.laws_scan.proofs.Bounds.{command-in}
+use Rattle.laws_arguments.proofs.Arguments.{pointsAtArgument}
 use Rattle.laws_offsets.specs.Stream.{byteAt, behindAt, FirstByte, ArgumentAt, Fault, as-written, by-argument, as-done, behind-stop, StreamOffset, at-command, at-end}
 use Rattle.laws_offsets.specs.Lists.{LineStart, first-line, behind-newline, ListOffset, QueryOffset}
 use Rattle.laws_offsets.specs.Offsets.{ReadOffset, too-long, in-list, in-stream, FindOffset, one-too-long, then-in-list, then-in-query, then-in-stream, OrRoom, room-aside, no-room, Said, ByNumber}
@@ -31,12 +32,12 @@ at-first s p n f lo hi no-6 =
 
 of-fault : (w : Widths) (s : List ℕ) (p : ℕ) (e : Env) (n at : ℕ) → FirstByte s p → Fault w s p e n at → OfStream s n at
 of-fault w s p e _ _ f (as-written n k h q lo hi) = at-first s p n f lo (omega arith) (λ z. omega arith)
-of-fault w s p e _ _ f (by-argument k h q) =
-    let g : k ≤ length (byteAt s p ∷ behindAt s p) = rw h at (command-in (byteAt s p) (behindAt s p)) in
+of-fault w s p e _ _ f (by-argument k o q) =
+    let g : k ≤ length (byteAt s p ∷ behindAt s p) = rw (pointsAtArgument .given (byteAt s p) (behindAt s p) k o) at (command-in (byteAt s p) (behindAt s p)) in
     record {
       number = (omega arith, omega arith);
       first = λ a b. absurd (b refl);
-      argument = λ a. record { place = p; first = f; behind = k; offset = refl; refused = h };
+      argument = λ a. record { place = p; first = f; behind = k; offset = refl; outside = o };
       end = λ a. absurd (omega arith);
       inside = omega (arith, f .inside, length-drop (p + 1) s);
     }

@@ -21,6 +21,7 @@ use Rattle.rules.specs.Find.{Wanted, queryLines, Query, illFormed, wellFormed, 
 use Rattle.rules.specs.Answers.{streamMost, isOver, read, roomFor, readInto, notSpelled, spellIf, spellWith, respell, spellingIn, respellInto, notFound, hitsIn, findAsked, findWith, find, foundIn, findInto, judgingOf, judge}
 use Rattle.laws.proofs.Cases.{on, no, or-true}
 use Rattle.laws_scan.proofs.Bounds.{bad-place}
+use Rattle.laws_arguments.proofs.Arguments.{pointsAtArgument}
 use Rattle.laws_scan.proofs.Walk.{from, from-end, from-white, from-comment, from-bad, from-got}
 use Rattle.laws_find.specs.Written.{gapLine}
 use Rattle.laws_offsets.specs.Stream.{byteAt, behindAt, commandAt, FirstByte, ReadTo, from-start, past-white, past-comment, past-command, Fault, as-written, by-argument, as-done, behind-stop, StreamOffset, at-command, at-end}
@@ -197,7 +198,7 @@ module _ (w : Widths) (s : List ℕ) where
   unfolding follow
   fault-refused p e _ _ b (as-written n k h q lo hi) =
       rw (from-bad s p (b .inside) (b .no-white) (b .no-comment) n k h, q, bad-place (byteAt s p) (behindAt s p) n k h (λ z. omega arith), add-zero)
-  fault-refused p e _ _ b (by-argument k h q) = rw (from-bad s p (b .inside) (b .no-white) (b .no-comment) 6 k h, q)
+  fault-refused p e _ _ b (by-argument k o q) = rw (from-bad s p (b .inside) (b .no-white) (b .no-comment) 6 k (pointsAtArgument .given (byteAt s p) (behindAt s p) k o), q)
   fault-refused p e _ _ b (as-done n c a l h q lo hi) = rw (from-got s p (b .inside) (b .no-white) (b .no-comment) c a l h, q)
   fault-refused p e _ _ b (behind-stop n k h q) = rw (from-bad s p (b .inside) (b .no-white) (b .no-comment) n k h, q)
 

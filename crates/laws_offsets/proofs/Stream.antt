@@ -18,6 +18,7 @@ use Rattle.rules.specs.Record.{GlyphRow, ItemRow, Answer, refuse, answer, after
 use Rattle.laws.proofs.Cases.{if-on, on, no}
 use Rattle.laws_read.proofs.Numbers.{StepIn, step-in, stopped-7}
 use Rattle.laws_scan.proofs.Bounds.{span-le, command-within, bad-place}
+use Rattle.laws_arguments.proofs.Arguments.{pointsAtArgument}
 use Rattle.laws_offsets.specs.Stream.{byteAt, behindAt, commandAt, Between, at-start, behind-white, behind-comment, behind-command, FirstByte, ReadTo, from-start, past-white, past-comment, past-command, as-written, by-argument, as-done, behind-stop, StreamOffset, at-command, at-end}
 use Rattle.laws_offsets.proofs.Numbers.{ScanIn, command-in}
 
@@ -45,7 +46,7 @@ module _ (w : Widths) (s : List ℕ) where
   -- a command at a place between commands, in an environment
   module _ (at : ℕ) (e : Env) (f : FirstByte s at) (h : ReadTo w s at e) where
     six-points : (k : ℕ) → commandAt s at ≡ bad 6 k → stopped e ≡ false → StreamOffset w s 6 (at + k)
-    six-points k p q = at-command 6 (at + k) (record { place = at; first = f; env = e; read-to = h; fault = by-argument k p q; after-stop = λ x. no (sym q ∙ x) })
+    six-points k p q = at-command 6 (at + k) (record { place = at; first = f; env = e; read-to = h; fault = by-argument k (pointsAtArgument .points (byteAt s at) (behindAt s at) k p) q; after-stop = λ x. no (sym q ∙ x) })
 
     written-points : (n k : ℕ) → commandAt s at ≡ bad n k → stopped e ≡ false → StreamOffset w s n (at + k)
     written-points n k p q =

@@ -10,6 +10,7 @@ use Rattle.rules.specs.Act.{Cmd}
 use Rattle.rules.specs.Scan.{Scan, got, bad, command}
 use Rattle.rules.specs.Widths.{Widths}
 use Rattle.rules.specs.State.{Env, start, Glyph, Item, refused, went, acts, perform, stopped}
+use Rattle.laws_arguments.specs.Arguments.{OutsideAt}
 
 -- the byte at a place, and what stands behind it
 abbrev pub byteAt : List ℕ → ℕ → ℕ
@@ -36,13 +37,16 @@ pub record FirstByte (s : List ℕ) (at : ℕ) : Type 0 where
   pub no-white : isWhite (byteAt s at) ≡ false
   pub no-comment : is "#" (byteAt s at) ≡ false
 
--- 2026-12: the place at which refusal 6 of the command at another place points
+-- 2026-12: "the first byte of the argument outside its limit" of the command at a place p, k bytes behind it
+abbrev pub ArgumentOutside : List ℕ → ℕ → ℕ → Type 0
+ArgumentOutside s p k = OutsideAt (byteAt s p) (behindAt s p) k
+
 pub record ArgumentAt (s : List ℕ) (at : ℕ) : Type 0 where
   pub place : ℕ
   pub first : FirstByte s place
   pub behind : ℕ
   pub offset : at ≡ place + behind
-  pub refused : commandAt s place ≡ bad 6 behind
+  pub outside : ArgumentOutside s place behind
 
 -- ---- "the command at fault"
 
@@ -58,7 +62,7 @@ pub data ReadTo (w : Widths) (s : List ℕ) : ℕ → Env → Type 0 where
 -- 10 by what it does; behind `x s` "a byte of anything" is 7, whatever is written there.
 pub data Fault (w : Widths) (s : List ℕ) (p : ℕ) (e : Env) : ℕ → ℕ → Type 0 where
   as-written : (n k : ℕ) → commandAt s p ≡ bad n k → stopped e ≡ false → 3 ≤ n → n ≤ 5 → Fault w s p e n p
-  by-argument : (k : ℕ) → commandAt s p ≡ bad 6 k → stopped e ≡ false → Fault w s p e 6 (p + k)
+  by-argument : (k : ℕ) → ArgumentOutside s p k → stopped e ≡ false → Fault w s p e 6 (p + k)
   as-done : (n : ℕ) (c : Cmd) (a l : ℕ) → commandAt s p ≡ got c a l → perform e (acts w e c) ≡ refused n → 7 ≤ n → n ≤ 10 → Fault w s p e n p
   behind-stop : (n k : ℕ) → commandAt s p ≡ bad n k → stopped e ≡ true → Fault w s p e 7 p
 

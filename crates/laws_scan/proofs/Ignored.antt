@@ -24,7 +24,7 @@ use Rattle.laws_scan.proofs.LineBreaks.{or-of, are-spaces, isGot, cmdIn
 
 -- ---- the text of integers, limits aside
 
-spacer-of : (s : List ℕ) → All isSpace s → Spacer s
+pub spacer-of : (s : List ℕ) → All isSpace s → Spacer s
 spacer-of [] h = tt
 spacer-of (b ∷ s) h = (or-of ((b ≡ 32) ⊎ (b ≡ 9)) (is " " b) (is "\t" b) (h .0) (λ e. inl (eqb-true b 32 e)) (λ e. inr (eqb-true b 9 e)), spacer-of s (h .1))
 

@@ -226,11 +226,11 @@ are-spaces (b ∷ s) h = (one (h .0), are-spaces s (h .1))
     one (inl e) = rw e
     one (inr e) = rw e
 
-are-not-white : (w : List ℕ) → NoWhite w → All isNotWhite w
+pub are-not-white : (w : List ℕ) → NoWhite w → All isNotWhite w
 are-not-white [] h = tt
 are-not-white (b ∷ w) h = (rw (ne-eqb b 32 (h .0), ne-eqb b 9 (h .1), ne-eqb b 10 (h .2)), are-not-white w (h .3))
 
-white-stops : (t : List ℕ) → WhiteOrEnd t → Stops isNotWhite t
+pub white-stops : (t : List ℕ) → WhiteOrEnd t → Stops isNotWhite t
 white-stops [] h = tt
 white-stops (b ∷ t) (inl e) = rw e
 white-stops (b ∷ t) (inr (inl e)) = rw e

@@ -1,0 +1,6 @@
+pub mod Places
+pub mod Limits
+pub mod Stands
+pub mod Letters
+pub mod OnePlace
+pub mod Arguments
