@@ -153,8 +153,8 @@ pub record Answer : Type 0 where
 
 -- "The reader, rewriter and finder each accept, or refuse with a number and an offset from the table in 01." (An answer is the one or the
 -- other by its type.) `ReadOffset` and `FindOffset` are the table's rows: each number with its reason (of 3 to 10, that the command at fault
--- is refused so: see `OutsideAt`, `laws_arguments`, for 6 and `As01Gives` for 7 to 10) and what stands at its offset, where no earlier reason is there; 13 at 0 for want of room;
--- `Said` has the offsets by numbers (`laws_offsets`).
+-- is refused so: see `OutsideAt`, `laws_arguments`, for 6 and `As01Gives` for 7 to 10) and what stands at its offset, where no earlier reason
+-- is there; 13 at 0 for want of room; `Said` has the offsets by numbers (`laws_offsets`).
 pub record Refuse : Type 0 where
   pub reader : (s list : List ℕ) (rs : List Record) (es : List Entry) (r : Reading) (rs′ : List Record) (es′ : List Entry) (number at : ℕ)
       → ReadCall s list rs es r rs′ es′ → r .answer ≡ R.Refused number at → OrRoom (ReadOffset s list) number at × Said s list [] number at
