@@ -15,9 +15,10 @@ use Rattle.laws.proofs.Cases.{no}
 use Rattle.laws_scan.specs.Texts.{Spacer}
 use Rattle.laws_scan.proofs.Bounds.{bad-place}
 use Rattle.laws_scan.proofs.LineBreaks.{isGot}
-use Rattle.laws_arguments.specs.Arguments.{Argument, InLimit, AllInLimit, argumentsOf, ArgumentIs, Laid, OutsideAt, PointsAtArgument}
+use Rattle.laws_arguments.specs.Arguments.{Argument, ArgumentWithin, AllWithin, argumentsOf, ArgumentIs, Laid, OutsideAt, PointsAtArgument}
 use Rattle.laws_arguments.proofs.Limits.{Agree, agree, isSome, none-found, all-in}
 use Rattle.laws_arguments.proofs.Places.{Begins, LaidAt, nothing-laid, one-more-laid}
+use Rattle.laws_arguments.proofs.Counts.{command-count}
 use Rattle.laws_arguments.proofs.Letters.{LaidOut, DraftLaid, letter-laid}
 use Rattle.laws_arguments.proofs.OnePlace.{all-behind, all-written, one-place-at}
 
@@ -41,8 +42,8 @@ record First (s : ℕ) (r : List ℕ) (xs : List Argument) (k : ℕ) : Type 0 wh
   argument : Argument
   after : List Argument
   order : xs ≡ before ++ argument ∷ after
-  within : AllInLimit before
-  outside-it : InLimit argument → ⊥
+  within : AllWithin before
+  outside-it : ArgumentWithin argument → ⊥
   at : ℕ
   gap : List ℕ
   text : List ℕ
@@ -101,7 +102,7 @@ record Skipped (ps : List Bool) (ys : List Argument) (ks js : List ℕ) : Type 0
   agrees : Agree tests ys
   same : outside ps ks ≡ outside tests js
 
-skipped : (ps : List Bool) (us ys : List Argument) (vs js : List ℕ) → length us ≡ length vs → AllInLimit us → Agree ps (us ++ ys) → Skipped ps ys (vs ++ js) js
+skipped : (ps : List Bool) (us ys : List Argument) (vs js : List ℕ) → length us ≡ length vs → AllWithin us → Agree ps (us ++ ys) → Skipped ps ys (vs ++ js) js
 skipped ps [] ys [] js e h g = record { tests = ps; agrees = g; same = refl }
 skipped ps [] ys (i ∷ vs) js e h g = absurd (omega (arith, e))
 skipped ps (u ∷ us) ys [] js e h g = absurd (omega (arith, e))
@@ -130,6 +131,7 @@ points-at b r k (draft c ds ks a l t) e h j = go (outside ps ks) refl j
           len = l;
           rest = t;
           complete = e;
+          count = command-count b r c ds ks a l t e;
           before = w .before;
           argument = w .argument;
           after = w .after;
@@ -150,7 +152,7 @@ points-at b r k (draft c ds ks a l t) e h j = go (outside ps ks) refl j
           place = w .place;
         }
 
-    at-fault : outside ps ks ≡ some k → AllInLimit (argumentsOf c ds) ⊎ LaidOut b r (argumentsOf c ds) ks → OutsideAt b r k
+    at-fault : outside ps ks ≡ some k → AllWithin (argumentsOf c ds) ⊎ LaidOut b r (argumentsOf c ds) ks → OutsideAt b r k
     at-fault f (inl all) = no (ap isSome (sym (none-found ps (argumentsOf c ds) ks (agree c ds) all) ∙ f))
     at-fault f (inr y) =
         let z : Skipped ps (y .written) (y .stand-ins ++ y .places) (y .places) = skipped ps (y .unwritten) (y .written) (y .stand-ins) (y .places) (y .even) (y .in-limit) (subst (Agree ps) (y .order) (agree c ds)) in
@@ -161,10 +163,10 @@ points-at b r k (draft c ds ks a l t) e h j = go (outside ps ks) refl j
     go none f q = no (sym (ap isGot q))
     go (some i) f q = at-fault (f ∙ ap some (ap placeIn q)) h
 
-only-in : (c : Cmd) (ds : List Num) (ks : List ℕ) (a l : ℕ) (t : List ℕ) → judged (draft c ds ks a l t) ≡ got c a l → AllInLimit (argumentsOf c ds)
+only-in : (c : Cmd) (ds : List Num) (ks : List ℕ) (a l : ℕ) (t : List ℕ) → judged (draft c ds ks a l t) ≡ got c a l → AllWithin (argumentsOf c ds)
 only-in c ds ks a l t j = go (outside (cmdLimits c ++ map isSmall ds) ks) refl j
   where
-    go : (o : Option ℕ) → outside (cmdLimits c ++ map isSmall ds) ks ≡ o → judgedBy c a l o ≡ got c a l → AllInLimit (argumentsOf c ds)
+    go : (o : Option ℕ) → outside (cmdLimits c ++ map isSmall ds) ks ≡ o → judgedBy c a l o ≡ got c a l → AllWithin (argumentsOf c ds)
     go none f q = all-in (cmdLimits c ++ map isSmall ds) (argumentsOf c ds) ks (agree c ds) f
     go (some i) f q = no (ap isGot q)
 
@@ -179,8 +181,8 @@ given-at b r k o = go (outside (cmdLimits c ++ map isSmall ds) (o .places)) refl
 
     go : (x : Option ℕ) → outside (cmdLimits c ++ map isSmall ds) (o .places) ≡ x → command b r ≡ bad 6 k
     go none f =
-        let all : AllInLimit (argumentsOf c ds) = all-in (cmdLimits c ++ map isSmall ds) (argumentsOf c ds) (o .places) (agree c ds) f in
-        absurd (o .outside (all-behind (o .before) (o .argument) (o .after) (subst AllInLimit (o .order) (all-written b (argumentsOf c ds) all))))
+        let all : AllWithin (argumentsOf c ds) = all-in (cmdLimits c ++ map isSmall ds) (argumentsOf c ds) (o .places) (agree c ds) f in
+        absurd (o .outside (all-behind (o .before) (o .argument) (o .after) (subst AllWithin (o .order) (all-written b (argumentsOf c ds) all))))
     go (some j) f =
         let e : command b r ≡ bad 6 j = ap judged (o .complete) ∙ ap (judgedBy c (o .name) (o .len)) f in
         e ∙ ap (bad 6) (one-place-at b r j k (points-at b r j (letter b r) refl (letter-laid b r) e) o)
@@ -193,4 +195,5 @@ pointsAtArgument = record {
   accepted = λ b r c ds ks a l t e h.
       ap judged e ∙ ap (judgedBy c a l) (none-found (cmdLimits c ++ map isSmall ds) (argumentsOf c ds) ks (agree c ds) h);
   only = λ b r c ds ks a l t e j. only-in c ds ks a l t (sym (ap judged e) ∙ j);
+  count = command-count;
 }

@@ -8,18 +8,18 @@ use mathlib.Core.Option.{Option, none, some}
 use mathlib.Core.Path.{_≡_, refl, sym, ap, subst, _∙_}
 use lib.Dec.{eqb}
 use lib.ListN.{length, take, drop, take-append-drop, length-append}
-use borrow.Author.Tests.{eqb-true}
+use borrow.Author.Tests.{eqb-true, eqb-false}
 use Rattle.rules.specs.Bytes.{is, isSpace, isWhite, isNotWhite, isDigit, spacer, unspaced, string, Num, origin, moved, integers}
 use Rattle.rules.specs.Act.{across, down, Scheme, Shape, colourFill, Plain, pause, trailer, height, slant, underline, Act, glyph, index, to, by, page, font, size, colour, break, draw, device, init, file, mount, plain, stop, just, word, pair}
 use Rattle.rules.specs.Letters.{Draft, fault, draft, withOne, ignoring, oneByte, named, numberNamed, withDummy, secondDigit, schemeOf, components, inScheme, coloured}
 use Rattle.rules.specs.Drawing.{lineEnds, closed, shapeOf, formOf, drawn, inShape, drawing}
-use Rattle.rules.specs.Controls.{alone, resolutionOf, plainCount, plainly, rawText, rawly, control, controlWord}
+use Rattle.rules.specs.Controls.{alone, resolutionOf, plainCount, plainly, rawText, rawLength, rawly, control, controlWord}
 use Rattle.rules.specs.Scan.{letter}
-use Rattle.laws.proofs.Cases.{no, if-both, if-on, Stops, all-span, length-span, drop-span}
+use Rattle.laws.proofs.Cases.{no, on, if-both, if-on, Stops, all-span, length-span, drop-span}
 use Rattle.laws_scan.specs.Texts.{NoWhite}
 use Rattle.laws_scan.proofs.Fair.{counted}
 use Rattle.laws_scan.proofs.Ignored.{spacer-of}
-use Rattle.laws_arguments.specs.Arguments.{Argument, a-name, a-word, a-text, AllInLimit, anyNumber, position, actArguments, argumentsOf, writtenBy, NoSpace, Letters, one-letter, of-m, of-D, of-DF, of-x}
+use Rattle.laws_arguments.specs.Arguments.{Argument, a-name, a-word, a-text, AllWithin, anyNumber, position, actArguments, argumentsOf, writtenBy, NoSpace, CommandLetters, one-letter, of-m, of-D, of-DF, of-x, TextIs, text-ends, one-byte, next-line}
 use Rattle.laws_arguments.proofs.Places.{Begins, LaidAt, one-laid, integers-laid, no-white-of, white-behind}
 use Rattle.laws_arguments.proofs.Stands.{NoText, Like, like-component, like-plain, NotSix, three, four, five, From, nothing-from, ignoring-from, dummy-from, one-from, all-from, resolution-from, named-from, number-named, drawn-from}
 
@@ -30,11 +30,11 @@ pub record LaidOut (b : ℕ) (r : List ℕ) (all : List Argument) (ks : List ℕ
   pub letters : List ℕ
   pub arguments : List ℕ
   pub bytes : b ∷ r ≡ letters ++ arguments
-  pub are-letters : Letters letters arguments
+  pub are-letters : CommandLetters letters arguments
   pub unwritten : List Argument
   pub stand-ins : List ℕ
   pub even : length unwritten ≡ length stand-ins
-  pub in-limit : AllInLimit unwritten
+  pub in-limit : AllWithin unwritten
   pub written : List Argument
   pub places : List ℕ
   pub order : all ≡ unwritten ++ written
@@ -48,14 +48,14 @@ pub record LaidOut (b : ℕ) (r : List ℕ) (all : List Argument) (ks : List ℕ
 -- no refusal of this layer is 6; `c`, `w` and two digits have nothing outside a limit
 abbrev pub DraftLaid : ℕ → List ℕ → Draft → Type 0
 DraftLaid b r (fault n) = NotSix n
-DraftLaid b r (draft c ds ks a l t) = AllInLimit (argumentsOf c ds) ⊎ LaidOut b r (argumentsOf c ds) ks
+DraftLaid b r (draft c ds ks a l t) = AllWithin (argumentsOf c ds) ⊎ LaidOut b r (argumentsOf c ds) ks
 
 closed-laid : (b : ℕ) (r : List ℕ) (x : Draft) → DraftLaid b r x → DraftLaid b r (closed x)
 closed-laid b r (fault n) h = h
 closed-laid b r (draft c ds ks a l t) h = if-both (DraftLaid b r) (lineEnds t) (draft c ds ks a l t) (fault 5) h five
 
-laid-out : (b : ℕ) (r letters arguments : List ℕ) (us : List Argument) (vs : List ℕ) (k : ℕ) (x : Draft) → b ∷ r ≡ letters ++ arguments → Letters letters arguments → length us ≡ length vs
-    → AllInLimit us → ((xs : List Argument) → writtenBy b (us ++ xs) ≡ xs) → k ≡ length letters → From k arguments us vs x → DraftLaid b r x
+laid-out : (b : ℕ) (r letters arguments : List ℕ) (us : List Argument) (vs : List ℕ) (k : ℕ) (x : Draft) → b ∷ r ≡ letters ++ arguments → CommandLetters letters arguments → length us ≡ length vs
+    → AllWithin us → ((xs : List Argument) → writtenBy b (us ++ xs) ≡ xs) → k ≡ length letters → From k arguments us vs x → DraftLaid b r x
 laid-out b r letters arguments us vs k (fault n) e g i u w far h = h
 laid-out b r letters arguments us vs k (draft c ds ks a l t) e g i u w far h =
     inr (record {
@@ -167,7 +167,19 @@ drawing-laid r = go (unspaced r) refl
 
 -- ---- `x`
 
-module _ (r letters arguments : List ℕ) (bytes : 120 ∷ r ≡ letters ++ arguments) (are-letters : Letters letters arguments) (k : ℕ) (far : k ≡ length letters) where
+-- a text as its bytes say
+text-is : (r : List ℕ) → TextIs (rawText r) (take (rawLength r) r) (drop (rawLength r) r)
+unfolding rawText rawLength
+text-is [] = text-ends [] tt
+text-is (b ∷ []) = on (is "\n" b) (λ h. rw h (text-ends (b ∷ []) (eqb-true b 10 h))) (λ h. rw h (one-byte b [] [] [] (eqb-false b 10 h) (text-ends [] tt)))
+text-is (b ∷ c ∷ r) =
+    on (is "\n" b)
+    (λ h. on (is "+" c)
+    (λ g. rw (h, g, eqb-true b 10 h, eqb-true c 43 g) (next-line (rawText r) (take (rawLength r) r) (drop (rawLength r) r) (text-is r)))
+    (λ g. rw (h, g) (text-ends (b ∷ c ∷ r) (eqb-true b 10 h, eqb-false c 43 g))))
+    (λ h. rw h (one-byte b (rawText (c ∷ r)) (take (rawLength (c ∷ r)) (c ∷ r)) (drop (rawLength (c ∷ r)) (c ∷ r)) (eqb-false b 10 h) (text-is (c ∷ r))))
+
+module _ (r letters arguments : List ℕ) (bytes : 120 ∷ r ≡ letters ++ arguments) (are-letters : CommandLetters letters arguments) (k : ℕ) (far : k ≡ length letters) where
   word-laid-out : (x : Draft) → From k arguments [] [] x → DraftLaid 120 r (closed x)
   word-laid-out x h = closed-laid 120 r x (laid-out 120 r letters arguments [] [] k x bytes are-letters refl tt (λ xs. refl) far h)
 
@@ -185,14 +197,17 @@ module _ (r letters arguments : List ℕ) (bytes : 120 ∷ r ≡ letters ++ argu
       let s : List ℕ = take (spacer arguments) arguments in
       let t : List ℕ = unspaced arguments in
       let x : Argument = a-text (rawText t) in
-      let b : Begins (length letters) arguments x (k + spacer arguments) (k + spacer arguments) t = record {
+      let w : List ℕ = take (rawLength t) t in
+      let v : List ℕ = drop (rawLength t) t in
+      let whole : w ++ v ≡ t = take-append-drop (rawLength t) t in
+      let b : Begins (length letters) arguments x (k + spacer arguments) (k + spacer arguments + length w) v = record {
         gap = s;
-        text = [];
-        bytes = split arguments t refl;
+        text = w;
+        bytes = split arguments (w ++ v) (sym whole);
         spaced = spacer-of s (all-span isSpace arguments);
-        written = (no-space-of t (drop-span isSpace arguments), refl);
+        written = (subst NoSpace (sym whole) (no-space-of t (drop-span isSpace arguments)), text-is t);
         place = omega (arith, far, length-span isSpace arguments);
-        end = omega arith;
+        end = refl;
       } in
       inr (record {
         letters = letters;
@@ -209,9 +224,9 @@ module _ (r letters arguments : List ℕ) (bytes : 120 ∷ r ≡ letters ++ argu
         in-order = refl;
         by-letter = refl;
         texts = inr refl;
-        end = k + spacer arguments;
-        rest = t;
-        laid = one-laid (length letters) arguments x (k + spacer arguments) (k + spacer arguments) t b;
+        end = k + spacer arguments + length w;
+        rest = v;
+        laid = one-laid (length letters) arguments x (k + spacer arguments) (k + spacer arguments + length w) v b;
       })
 
   control-laid : (b : ℕ) → DraftLaid 120 r (control b k arguments)
@@ -268,10 +283,10 @@ abbrev Single : ℕ → Type 0
 Single n = (eqb n 109 ≡ false) × (eqb n 68 ≡ false) × (eqb n 120 ≡ false)
 
 -- behind one letter, which is n
-letter-laid-out : (n b : ℕ) (r : List ℕ) (us : List Argument) (vs : List ℕ) (x : Draft) → Single n → length us ≡ length vs → AllInLimit us → ((xs : List Argument) → writtenBy n (us ++ xs) ≡ xs)
+letter-laid-out : (n b : ℕ) (r : List ℕ) (us : List Argument) (vs : List ℕ) (x : Draft) → Single n → length us ≡ length vs → AllWithin us → ((xs : List Argument) → writtenBy n (us ++ xs) ≡ xs)
     → From 1 r us vs x → eqb b n ≡ true → DraftLaid b r x
 letter-laid-out n b r us vs x s i u w h e =
-    let one : Letters (n ∷ []) r = one-letter n r (λ z. no (sym (s .0) ∙ ap (λ (y : ℕ). eqb y 109) z)) (λ z. no (sym (s .1) ∙ ap (λ (y : ℕ). eqb y 68) z)) (λ z. no (sym (s .2) ∙ ap (λ (y : ℕ). eqb y 120) z)) in
+    let one : CommandLetters (n ∷ []) r = one-letter n r (λ z. no (sym (s .0) ∙ ap (λ (y : ℕ). eqb y 109) z)) (λ z. no (sym (s .1) ∙ ap (λ (y : ℕ). eqb y 68) z)) (λ z. no (sym (s .2) ∙ ap (λ (y : ℕ). eqb y 120) z)) in
     subst (λ (y : ℕ). DraftLaid y r x) (sym (eqb-true b n e)) (laid-out n r (n ∷ []) r us vs 1 x refl one i u w refl h)
 
 pub letter-laid : (b : ℕ) (r : List ℕ) → DraftLaid b r (letter b r)

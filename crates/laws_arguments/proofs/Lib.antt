@@ -1,6 +1,7 @@
 pub mod Places
 pub mod Limits
 pub mod Stands
+pub mod Counts
 pub mod Letters
 pub mod OnePlace
 pub mod Arguments

@@ -12,13 +12,13 @@ use Rattle.rules.specs.Bytes.{Num, most, origin, within, near}
 use Rattle.rules.specs.Act.{Shape, line, arc, circle, solidCircle, ellipse, solidEllipse, polygon, solidPolygon, spline, thickness, grayFill, colourFill, Plain, pause, trailer, height, slant, underline, Act, glyph, index, to, by, page, font, size, colour, break, space, draw, device, resolution, init, file, mount, plain, raw, stop, Cmd, just, word, pair}
 use Rattle.rules.specs.Scan.{isPositive, upTo, shapeLimits, plainLimits, limits, cmdLimits, isSmall, outside}
 use Rattle.laws.proofs.Cases.{no}
-use Rattle.laws_arguments.specs.Arguments.{Argument, a-number, a-dummy, one-too-many, a-name, a-text, InLimit, AllInLimit, anyNumber, positive, shapeArguments, plainArguments, actArguments, cmdArguments, argumentsOf}
+use Rattle.laws_arguments.specs.Arguments.{Argument, a-number, a-dummy, one-too-many, a-name, a-text, ArgumentWithin, AllWithin, anyNumber, positive, shapeArguments, plainArguments, actArguments, cmdArguments, argumentsOf}
 
 -- ---- one argument, and a list of them
 
 abbrev Says : Bool → Argument → Type 0
-Says true x = InLimit x
-Says false x = InLimit x → ⊥
+Says true x = ArgumentWithin x
+Says false x = ArgumentWithin x → ⊥
 
 abbrev pub Agree : List Bool → List Argument → Type 0
 Agree [] [] = Unit {0}
@@ -45,7 +45,7 @@ says-within lo hi n = go (leb lo n) (leb n hi) refl refl
     go false q e f = λ h. absurd (omega (arith, leb-false lo n e, h .0))
 
 -- a length, or a magnitude
-says-most : (x : Argument) (n hi : ℕ) → (n ≤ hi → InLimit x) → (InLimit x → n ≤ hi) → Says (leb n hi) x
+says-most : (x : Argument) (n hi : ℕ) → (n ≤ hi → ArgumentWithin x) → (ArgumentWithin x → n ≤ hi) → Says (leb n hi) x
 says-most x n hi f g = go (leb n hi) refl
   where
     go : (p : Bool) → leb n hi ≡ p → Says p x
@@ -139,7 +139,7 @@ abbrev pub isSome : Option ℕ → Bool
 isSome none = false
 isSome (some k) = true
 
-pub none-found : (ps : List Bool) (xs : List Argument) (ks : List ℕ) → Agree ps xs → AllInLimit xs → outside ps ks ≡ none
+pub none-found : (ps : List Bool) (xs : List Argument) (ks : List ℕ) → Agree ps xs → AllWithin xs → outside ps ks ≡ none
 none-found [] xs ks h g = refl
 none-found (true ∷ ps) [] ks h g = absurd h
 none-found (true ∷ ps) (x ∷ xs) [] h g = none-found ps xs [] (h .1) (g .1)
@@ -147,7 +147,7 @@ none-found (true ∷ ps) (x ∷ xs) (k ∷ ks) h g = none-found ps xs ks (h .1) 
 none-found (false ∷ ps) [] ks h g = absurd h
 none-found (false ∷ ps) (x ∷ xs) ks h g = absurd (h .0 (g .0))
 
-pub all-in : (ps : List Bool) (xs : List Argument) (ks : List ℕ) → Agree ps xs → outside ps ks ≡ none → AllInLimit xs
+pub all-in : (ps : List Bool) (xs : List Argument) (ks : List ℕ) → Agree ps xs → outside ps ks ≡ none → AllWithin xs
 all-in [] [] ks h e = tt
 all-in [] (x ∷ xs) ks h e = absurd h
 all-in (true ∷ ps) [] ks h e = absurd h

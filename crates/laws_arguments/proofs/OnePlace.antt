@@ -14,7 +14,7 @@ use Rattle.laws.proofs.Cases.{if-both, Stops, span-all, drop-front}
 use Rattle.laws_scan.specs.Texts.{Spacer, NoWhite, WhiteOrEnd, Digits, Written}
 use Rattle.laws_scan.proofs.Written.{integers-as-written}
 use Rattle.laws_scan.proofs.LineBreaks.{are-spaces, are-not-white, white-stops}
-use Rattle.laws_arguments.specs.Arguments.{Argument, a-number, a-dummy, one-too-many, a-name, a-word, a-text, InLimit, AllInLimit, argumentsOf, writtenBy, NoSpace, Letters, one-letter, of-m, of-D, of-DF, of-x, NumberIs, StringIs, ArgumentIs, Laid, none, next, OutsideAt}
+use Rattle.laws_arguments.specs.Arguments.{Argument, a-number, a-dummy, one-too-many, a-name, a-word, a-text, ArgumentWithin, AllWithin, argumentsOf, writtenBy, NoSpace, CommandLetters, one-letter, of-m, of-D, of-DF, of-x, NumberIs, StringIs, ArgumentIs, Laid, none, next, OutsideAt}
 use Rattle.laws_arguments.proofs.Stands.{NoText}
 use Rattle.laws_arguments.proofs.Letters.{LaidOut, DraftLaid, letter-laid}
 
@@ -126,7 +126,7 @@ behind-spacer : (P : ℕ → List ℕ → Type 0) (s w t : List ℕ) → Spacer 
 behind-spacer P s w t h g p =
     subst (λ (r : List ℕ). P (spacer r) (unspaced r)) (sym (append-assoc s w t)) (front-is P (spacer (s ++ (w ++ t))) s (w ++ t) (spacer-long s (w ++ t) h g) p)
 
-letters-long : (l t : List ℕ) → Letters l t → lettersLength (l ++ t) ≡ length l
+letters-long : (l t : List ℕ) → CommandLetters l t → lettersLength (l ++ t) ≡ length l
 letters-long l t (one-letter b u m d x) = rw (ne-eqb b 109 m, ne-eqb b 68 d, ne-eqb b 120 x)
 letters-long l t (of-m s c u h v) =
     behind-spacer (λ i p. i + 2 ≡ suc (length (s ++ (c ∷ [])))) s (c ∷ []) u h (no-space c u (v .0, v .1)) (omega (arith, length-append s (c ∷ [])))
@@ -145,20 +145,20 @@ abbrev headOr : Argument → List Argument → Argument
 headOr d [] = d
 headOr d (x ∷ xs) = x
 
-same-before : (xs ys : List Argument) (x y : Argument) (us vs : List Argument) → xs ++ x ∷ us ≡ ys ++ y ∷ vs → AllInLimit xs → AllInLimit ys → (InLimit x → ⊥) → (InLimit y → ⊥) → xs ≡ ys
+same-before : (xs ys : List Argument) (x y : Argument) (us vs : List Argument) → xs ++ x ∷ us ≡ ys ++ y ∷ vs → AllWithin xs → AllWithin ys → (ArgumentWithin x → ⊥) → (ArgumentWithin y → ⊥) → xs ≡ ys
 same-before [] [] x y us vs e h g p q = refl
-same-before [] (z ∷ ys) x y us vs e h g p q = absurd (p (subst InLimit (sym (ap (headOr x) e)) (g .0)))
-same-before (z ∷ xs) [] x y us vs e h g p q = absurd (q (subst InLimit (ap (headOr x) e) (h .0)))
+same-before [] (z ∷ ys) x y us vs e h g p q = absurd (p (subst ArgumentWithin (sym (ap (headOr x) e)) (g .0)))
+same-before (z ∷ xs) [] x y us vs e h g p q = absurd (q (subst ArgumentWithin (ap (headOr x) e) (h .0)))
 same-before (z ∷ xs) (w ∷ ys) x y us vs e h g p q = ap₂ _∷_ (ap (headOr x) e) (same-before xs ys x y us vs (ap (drop 1) e) (h .1) (g .1) p q)
 
-pub all-behind : (xs : List Argument) (x : Argument) (us : List Argument) → AllInLimit (xs ++ x ∷ us) → InLimit x
+pub all-behind : (xs : List Argument) (x : Argument) (us : List Argument) → AllWithin (xs ++ x ∷ us) → ArgumentWithin x
 all-behind [] x us h = h .0
 all-behind (z ∷ xs) x us h = all-behind xs x us (h .1)
 
-pub all-written : (b : ℕ) (xs : List Argument) → AllInLimit xs → AllInLimit (writtenBy b xs)
-all-written b xs h = if-both AllInLimit (is "t" b) (drop 1 xs) xs (rest xs h) h
+pub all-written : (b : ℕ) (xs : List Argument) → AllWithin xs → AllWithin (writtenBy b xs)
+all-written b xs h = if-both AllWithin (is "t" b) (drop 1 xs) xs (rest xs h) h
   where
-    rest : (xs : List Argument) → AllInLimit xs → AllInLimit (drop 1 xs)
+    rest : (xs : List Argument) → AllWithin xs → AllWithin (drop 1 xs)
     rest [] h = tt
     rest (x ∷ xs) h = h .1
 
@@ -176,8 +176,8 @@ is-there b r k x = go (subst (DraftLaid b r) (x .complete) (letter-laid b r))
     all : List Argument
     all = argumentsOf (x .cmd) (x .dummies)
 
-    go : AllInLimit all ⊎ LaidOut b r all (x .places) → k ≡ placeIn b r (x .before)
-    go (inl h) = absurd (x .outside (all-behind (x .before) (x .argument) (x .after) (subst AllInLimit (x .order) (all-written b all h))))
+    go : AllWithin all ⊎ LaidOut b r all (x .places) → k ≡ placeIn b r (x .before)
+    go (inl h) = absurd (x .outside (all-behind (x .before) (x .argument) (x .after) (subst AllWithin (x .order) (all-written b all h))))
     go (inr h) =
         let texts : NoText (x .before) = no-text-before (x .before) (x .argument) (x .after) (subst (λ xs. NoText xs ⊎ (length xs ≡ 1)) (sym (h .by-letter) ∙ x .order) (h .texts)) in
         let there : k ≡ placeBehind (length (x .letters)) (x .arguments) (x .before) = x .place
