@@ -2,6 +2,7 @@
 
 use second::print::refusal_text;
 use second::vectors::{Case, Program, Routine, Second};
+use second::{read, Rooms};
 
 /// The room that stands for unlimited; no case within the bounds needs more.
 const UNLIMITED: usize = 1_000_000_000;
@@ -23,10 +24,15 @@ pub struct Check {
     pub expected: Vec<u8>,
 }
 
-/// Whether stream, list and query have at most `limit` bytes each.
+/// The bound in records of a stream; far more exceed the prover's steps, however few its bytes.
+const RECORD_LIMIT: usize = 3_000;
+
+/// Whether stream, list and query have at most `limit` bytes each, and the stream has few records.
 pub fn is_within(case: &Case, limit: usize) -> bool {
     let query = case.query.as_deref().unwrap_or_default();
-    [&case.stream, &case.list, query].iter().all(|input| input.len() <= limit)
+    let is_short = [&case.stream, &case.list, query].iter().all(|input| input.len() <= limit);
+    let reading = read(&case.stream, &case.list, Rooms::default());
+    is_short && reading.map_or(0, |reading| reading.records.len()) <= RECORD_LIMIT
 }
 
 /// The checks of every case: reader and rewriter and, with a query, the finder.
