@@ -1,21 +1,21 @@
--- The numbers with which a command is refused as it is written: 3 to 6.
-use Prim.Native.Nat.{ℕ, _+_, _*_, _-_, _≤_}
+-- The numbers with which a command is refused: 3 to 6 as it is written, 7 behind `x s`.
+use Prim.Native.Nat.{ℕ, _+_, _*_, _-_}
 use native.Mathlib.Omega.{arith}
 use mathlib.Core.Bool.{true, false}
 use mathlib.Core.List.{List, [], _∷_, _++_, map}
 use mathlib.Core.Option.{Option, none, some}
 use mathlib.Core.Path.{_≡_}
 use borrow.Author.Tests.{eqb-true}
-use lib.Dec.{ltb, eqb}
+use lib.Dec.{eqb}
 use lib.ListN.{length, drop}
 use Rattle.rules.specs.Bytes.{is, isWhite, isDigit, spacer, unspaced, string, origin, moved, Nums, short, nums, integers, manyIntegers, perhapsInteger}
 use Rattle.rules.specs.Act.{across, down, Scheme, Shape, colourFill, Plain, pause, trailer, height, slant, underline, Act, glyph, index, to, by, page, font, size, colour, break, space, draw, device, resolution, init, file, mount, plain, raw, stop, Cmd, just, word, pair}
 use Rattle.rules.specs.Letters.{Draft, fault, draft, withOne, withAll, ignoring, oneByte, named, numberNamed, followedByWhite, withDummy, secondDigit, schemeOf, components, inScheme, coloured}
-use Rattle.rules.specs.Drawing.{lineEnds, closed, shapeOf, Form, exactly, dummied, paired, formOf, inPairs, dummyBehind, drawn, inShape, drawing, wayOf}
+use Rattle.rules.specs.Drawing.{lineEnds, closed, shapeOf, Form, exactly, dummied, paired, formOf, inPairs, dummyBehind, drawn, inShape, drawing}
 use Rattle.rules.specs.Controls.{alone, resolutionOf, plainCount, plainly, control, controlWord}
 use Rattle.rules.specs.Scan.{letter, cmdLimits, isSmall, outside, judgedBy, judged, command, Scan, got, bad}
-use Rattle.rules.specs.Widths.{Widths, Font, widthOf}
-use Rattle.rules.specs.State.{get, fits, mayGo, Env, Glyph, Item, Step, refused, went, before, andThen, onPage, due, withFont, recorded, indexed, mountedAt, isMounted, effect, act, run, Acts, noActs, these, ready, byteActs, wordActs, wordIn, acts, perform, inBody, stopped}
+use Rattle.rules.specs.Widths.{Widths}
+use Rattle.rules.specs.State.{Env, refused, onPage, due, act, run, Acts, noActs, these, ready, wordIn, acts, perform, inBody, stopped}
 use Rattle.laws.proofs.Cases.{if-both}
 use Rattle.laws_read.proofs.Numbers.{FromTo}
 
@@ -161,3 +161,46 @@ judged-in (draft c ds ks a l t) h = go (outside (cmdLimits c ++ map isSmall ds) 
 
 pub command-in : (b : ℕ) (r : List ℕ) → ScanIn (command b r)
 command-in b r = judged-in (letter b r) (letter-in b r)
+
+-- ---- behind `x s`: 7, whatever stands there
+
+module _ (e : Env) (h : stopped e ≡ true) where
+  phase-4 : e .phase ≡ 4
+  phase-4 = eqb-true (e .phase) 4 h
+
+  no-body : inBody e ≡ false
+  no-body = rw phase-4
+
+  no-page : onPage e ≡ false
+  no-page = rw no-body
+
+  never-due : (a : Act) → due e a ≡ false
+  never-due (glyph n) = no-page
+  never-due (index n) = no-page
+  never-due (to x n) = no-page
+  never-due (by x n) = no-page
+  never-due (page n) = no-body
+  never-due (font n) = no-body
+  never-due (size n) = no-body
+  never-due (colour c ns) = no-body
+  never-due break = no-body
+  never-due space = no-body
+  never-due (draw s ns) = no-page
+  never-due (device n) = rw phase-4
+  never-due (resolution n k v) = rw phase-4
+  never-due init = rw phase-4
+  never-due (file n) = no-body
+  never-due (mount n m) = no-body
+  never-due (plain c ns) = no-body
+  never-due (raw t) = no-body
+  never-due stop = no-body
+
+  not-ready : (go : ℕ → Acts) (o : Option ℕ) → ready e go o ≡ noActs 7
+  not-ready go none = rw no-page
+  not-ready go (some f) = rw no-page
+
+  pub stopped-7 : (w : Widths) (c : Cmd) → perform e (acts w e c) ≡ refused 7
+  unfolding run act
+  stopped-7 w (just a) = rw (never-due a)
+  stopped-7 w (word n bs) = rw (not-ready (wordIn w e n bs) (e .font))
+  stopped-7 w (pair n b) = rw (not-ready (λ f. these (by across n ∷ glyph (b ∷ []) ∷ [])) (e .font))

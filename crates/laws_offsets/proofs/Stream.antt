@@ -16,11 +16,11 @@ use Rattle.rules.specs.Widths.{Widths}
 use Rattle.rules.specs.State.{Env, start, Step, refused, went, acts, perform, stopped}
 use Rattle.rules.specs.Record.{GlyphRow, ItemRow, Answer, refuse, answer, afterRows, glyphRows, itemRows, goOn, follow}
 use Rattle.laws.proofs.Cases.{if-on, on, no}
-use Rattle.laws_read.proofs.Numbers.{StepIn, step-in, stopped-7}
+use Rattle.laws_read.proofs.Numbers.{StepIn, step-in}
 use Rattle.laws_scan.proofs.Bounds.{span-le, command-within, bad-place}
 use Rattle.laws_arguments.proofs.Arguments.{pointsAtArgument}
 use Rattle.laws_offsets.specs.Stream.{byteAt, behindAt, commandAt, Between, at-start, behind-white, behind-comment, behind-command, FirstByte, ReadTo, from-start, past-white, past-comment, past-command, as-written, by-argument, as-done, behind-stop, StreamOffset, at-command, at-end}
-use Rattle.laws_offsets.proofs.Numbers.{ScanIn, command-in}
+use Rattle.laws_offsets.proofs.Numbers.{ScanIn, command-in, stopped-7}
 
 abbrev numberOf : Step → ℕ
 numberOf (refused n) = n

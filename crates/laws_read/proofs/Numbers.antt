@@ -1,17 +1,14 @@
--- The numbers with which a command is refused by what it does: 7 to 10, and 7 behind `x s`.
+-- The numbers with which a command is refused by what it does: 7 to 10.
 use Prim.Native.Nat.{ℕ, _-_, _≤_}
 use native.Mathlib.Omega.{arith}
-use mathlib.Core.Bool.{true, false}
 use mathlib.Core.List.{List, [], _∷_}
 use mathlib.Core.Option.{Option, none, some}
-use mathlib.Core.Path.{_≡_}
-use borrow.Author.Tests.{eqb-true}
-use lib.Dec.{ltb, eqb}
+use lib.Dec.{ltb}
 use Rattle.rules.specs.Bytes.{origin}
 use Rattle.rules.specs.Act.{across, Act, glyph, index, to, by, page, font, size, colour, break, space, draw, device, resolution, init, file, mount, plain, raw, stop, Cmd, just, word, pair}
 use Rattle.rules.specs.Drawing.{wayOf}
 use Rattle.rules.specs.Widths.{Widths, Font, widthOf}
-use Rattle.rules.specs.State.{get, fits, mayGo, Env, Glyph, Item, Step, refused, went, before, andThen, onPage, due, withFont, recorded, indexed, mountedAt, isMounted, effect, act, run, Acts, noActs, these, ready, byteActs, wordActs, wordIn, acts, perform, inBody, stopped}
+use Rattle.rules.specs.State.{get, fits, mayGo, Env, Glyph, Item, Step, refused, went, before, andThen, onPage, due, withFont, recorded, indexed, mountedAt, isMounted, effect, act, run, Acts, noActs, these, ready, byteActs, wordActs, wordIn, acts, perform}
 use Rattle.laws.proofs.Cases.{if-both}
 
 abbrev pub FromTo : ℕ → ℕ → ℕ → Type 0
@@ -93,46 +90,3 @@ perform-in e (these xs) h = run-in xs e
 -- what a command does in an environment
 pub step-in : (w : Widths) (e : Env) (c : Cmd) → StepIn (perform e (acts w e c))
 step-in w e c = perform-in e (acts w e c) (acts-in w e c)
-
--- ---- behind `x s`: 7, whatever stands there
-
-module _ (e : Env) (h : stopped e ≡ true) where
-  phase-4 : e .phase ≡ 4
-  phase-4 = eqb-true (e .phase) 4 h
-
-  no-body : inBody e ≡ false
-  no-body = rw phase-4
-
-  no-page : onPage e ≡ false
-  no-page = rw no-body
-
-  never-due : (a : Act) → due e a ≡ false
-  never-due (glyph n) = no-page
-  never-due (index n) = no-page
-  never-due (to x n) = no-page
-  never-due (by x n) = no-page
-  never-due (page n) = no-body
-  never-due (font n) = no-body
-  never-due (size n) = no-body
-  never-due (colour c ns) = no-body
-  never-due break = no-body
-  never-due space = no-body
-  never-due (draw s ns) = no-page
-  never-due (device n) = rw phase-4
-  never-due (resolution n k v) = rw phase-4
-  never-due init = rw phase-4
-  never-due (file n) = no-body
-  never-due (mount n m) = no-body
-  never-due (plain c ns) = no-body
-  never-due (raw t) = no-body
-  never-due stop = no-body
-
-  not-ready : (go : ℕ → Acts) (o : Option ℕ) → ready e go o ≡ noActs 7
-  not-ready go none = rw no-page
-  not-ready go (some f) = rw no-page
-
-  pub stopped-7 : (w : Widths) (c : Cmd) → perform e (acts w e c) ≡ refused 7
-  unfolding run act
-  stopped-7 w (just a) = rw (never-due a)
-  stopped-7 w (word n bs) = rw (not-ready (wordIn w e n bs) (e .font))
-  stopped-7 w (pair n b) = rw (not-ready (λ f. these (by across n ∷ glyph (b ∷ []) ∷ [])) (e .font))
