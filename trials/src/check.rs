@@ -30,9 +30,13 @@ const RECORD_LIMIT: usize = 3_000;
 /// Whether stream, list and query have at most `limit` bytes each, and the stream has few records.
 pub fn is_within(case: &Case, limit: usize) -> bool {
     let query = case.query.as_deref().unwrap_or_default();
-    let is_short = [&case.stream, &case.list, query].iter().all(|input| input.len() <= limit);
-    let reading = read(&case.stream, &case.list, Rooms::default());
-    is_short && reading.map_or(0, |reading| reading.records.len()) <= RECORD_LIMIT
+    [&case.stream, &case.list, query].iter().all(|input| input.len() <= limit)
+        && record_count(case) <= RECORD_LIMIT
+}
+
+/// How many records the reader gives; none in a refusal.
+fn record_count(case: &Case) -> usize {
+    read(&case.stream, &case.list, Rooms::default()).map_or(0, |reading| reading.records.len())
 }
 
 /// The checks of every case: reader and rewriter and, with a query, the finder.
