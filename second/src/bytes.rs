@@ -30,6 +30,11 @@ pub fn is_whitespace(byte: u8) -> bool {
     matches!(byte, b' ' | b'\t' | b'\n')
 }
 
+/// 2026-06: "any byte 0 to 8, 11 to 31 or 127 in a name or a glyph" is refused.
+pub fn is_barred(byte: u8) -> bool {
+    matches!(byte, 0..=8 | 11..=31 | 127)
+}
+
 /// The first place from `at` whose byte satisfies `stop`, or the end of input.
 pub fn find_byte(bytes: &[u8], at: usize, stop: impl Fn(u8) -> bool) -> usize {
     bytes[at..].iter().position(|&byte| stop(byte)).map_or(bytes.len(), |distance| at + distance)

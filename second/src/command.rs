@@ -1,8 +1,8 @@
 //! 01, "Commands of one letter", "Drawing" and "Controls": the form of one command, and the
-//! refusals that its form alone decides (3, 4, 5 and 6, the smallest first).
+//! refusals that its form alone decides (3, 4, 5, 6 and 16, in that order).
 
-use crate::bytes::{line_end, Cursor, Name, NAME_LIMIT, NUMBER_LIMIT};
-use crate::refusal::{at, require, Refusal, MALFORMED, OUTSIDE_LIMIT, SURPLUS, UNKNOWN};
+use crate::bytes::{is_barred, line_end, Cursor, Name, NAME_LIMIT, NUMBER_LIMIT};
+use crate::refusal::{at, require, Refusal, BARRED_BYTE, MALFORMED, OUTSIDE_LIMIT, SURPLUS, UNKNOWN};
 use std::ops::RangeInclusive;
 
 /// "The text has at most 4,096 bytes, added newlines counted."
@@ -81,6 +81,19 @@ pub enum Command {
     Text { first_line: Name },
 }
 
+impl Command {
+    /// What 2026-06 bars bytes in: "a name or a glyph, also in a `t` or `u` word"; "`x X` text is exempt".
+    pub fn name(&self) -> Option<Name> {
+        match self {
+            Command::Glyph(name) | Command::Word { word: name, .. } | Command::Pair { glyph: name, .. } => {
+                Some(*name)
+            }
+            Command::Control { name, .. } => *name,
+            _ => None,
+        }
+    }
+}
+
 /// A command and the place behind its last argument byte (`t`, `u`, `Dc`, `DC`: a dummy included).
 #[derive(Clone, Debug, PartialEq, Eq)]
 pub struct Scanned {
@@ -90,14 +103,21 @@ pub struct Scanned {
 
 /// Scans the command whose first byte stands at `place`. 3, 4 and 5 have that offset. 6, by 2026-12,
 /// has "the first byte of the argument outside its limit"; it is judged when the whole form is, as
-/// "at one command the smallest number" is given.
+/// "at one command the smallest number" is given. 16, by 2026-06, has the command's offset again and
+/// "is tested after 6 and before 7".
 pub fn scan(stream: &[u8], place: usize) -> Result<Scanned, Refusal> {
     let mut scanner = Scanner { cursor: Cursor::new(stream, place), outside: None };
     let command = scanner.command().map_err(at(place))?;
-    match scanner.outside {
-        Some(offset) => Err(Refusal { number: OUTSIDE_LIMIT, offset }),
-        None => Ok(Scanned { command, end: scanner.cursor.at }),
+    if let Some(offset) = scanner.outside {
+        return Err(Refusal { number: OUTSIDE_LIMIT, offset });
     }
+    require(!has_barred_byte(stream, &command), BARRED_BYTE).map_err(at(place))?;
+    Ok(Scanned { command, end: scanner.cursor.at })
+}
+
+/// 16: a barred byte "in a name or a glyph, also in a `t` or `u` word".
+fn has_barred_byte(stream: &[u8], command: &Command) -> bool {
+    command.name().is_some_and(|name| name.of(stream).iter().any(|&byte| is_barred(byte)))
 }
 
 /// The scan of one command. Its functions answer 3, 4 or 5, or what they read, even where that is

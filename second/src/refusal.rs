@@ -1,4 +1,4 @@
-//! 01, "Refusal numbers and their order".
+//! 01, "Refusal numbers and their order", and the number of 2026-06.
 
 /// A refusal: its number in 01's table and the offset that goes with it, which for 6 is the argument's
 /// by 2026-12.
@@ -21,6 +21,8 @@ pub const OUT_OF_REACH: u8 = 10;
 pub const NO_STOP: u8 = 11;
 pub const QUERY: u8 = 12;
 pub const NO_ROOM: u8 = 13;
+/// 2026-06: "tested after 6 and before 7 for the same command".
+pub const BARRED_BYTE: u8 = 16;
 
 pub const STREAM_LIMIT: usize = 16_777_216;
 pub const LIST_LIMIT: usize = 65_536;
@@ -67,7 +69,7 @@ pub fn at(offset: usize) -> impl Fn(u8) -> Refusal {
     move |number| Refusal { number, offset }
 }
 
-/// The reason in words, after 01's table.
+/// The reason in words, after 01's table and 2026-06.
 pub fn reason(number: u8) -> &'static str {
     match number {
         TOO_LONG => "the stream is over 16,777,216 bytes, the list over 65,536 or the query over 8,192",
@@ -83,6 +85,7 @@ pub fn reason(number: u8) -> &'static str {
         NO_STOP => "no `x s`",
         QUERY => "wrong line in the query, or an empty query",
         NO_ROOM => "records, entries, hits or spelling need more room than lent, or the spelling is over 16,777,216 bytes",
+        BARRED_BYTE => "byte 0 to 8, 11 to 31 or 127 in a name or a glyph",
         _ => "unknown refusal",
     }
 }

@@ -1,6 +1,6 @@
 //! 01, "Widths": the width list and the advance.
 
-use crate::bytes::{is_whitespace, NAME_LIMIT};
+use crate::bytes::{is_barred, is_whitespace, NAME_LIMIT};
 use crate::refusal::{Refusal, WIDTH_LIST};
 
 /// "up to 32 blocks".
@@ -118,9 +118,11 @@ impl ListReader {
     }
 }
 
-/// A name of a list or query: "a string of 1 to 64 bytes".
+/// A name of a list or query: "a string of 1 to 64 bytes". 2026-06: "the old numbers 2, 12 [...] are
+/// given for such a byte in a name".
 pub fn is_list_name(name: &[u8]) -> bool {
-    (1..=NAME_LIMIT).contains(&name.len()) && !name.iter().any(|&byte| is_whitespace(byte))
+    let is_wrong = |&byte: &u8| is_whitespace(byte) || is_barred(byte);
+    (1..=NAME_LIMIT).contains(&name.len()) && !name.iter().any(is_wrong)
 }
 
 /// "Numbers have no sign and no leading zeros."

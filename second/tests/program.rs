@@ -46,6 +46,14 @@ fn refusals_are_printed_and_explained() {
     let refused = second(&["glyphs"], &[&stream, &list]);
     assert_eq!((stdout(&refused), refused.status.code()), ("refused 3 9\n".to_string(), Some(1)));
     assert!(stderr(&refused).contains("r-stream: line 2, column 3: unknown command"), "{}", stderr(&refused));
+    let barred = file("r-barred", "x T ps\nx F a\u{1}\n");
+    let refused = second(&["glyphs"], &[&barred, &list]);
+    assert_eq!((stdout(&refused), refused.status.code()), ("refused 16 7\n".to_string(), Some(1)));
+    assert!(
+        stderr(&refused).contains("r-barred: line 2, column 1: byte 0 to 8, 11 to 31 or 127 in a name"),
+        "{}",
+        stderr(&refused)
+    );
     let refused = second(&["respell"], &[&stream, &wrong_list]);
     assert_eq!(stdout(&refused), "refused 2 12\n");
     assert!(stderr(&refused).contains("r-wrong: line 2, column 1: "), "{}", stderr(&refused));

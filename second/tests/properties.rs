@@ -79,7 +79,7 @@ fn every_command_is_generated() {
 
 #[test]
 fn every_refusal_comes_and_a_third_is_accepted() {
-    let mut counts = [[0u32; 14]; 3];
+    let mut counts = [[0u32; 17]; 3];
     for seed in 0..MANY_SEEDS {
         let Case { stream, list, query, rooms } = case(seed);
         let numbers = [
@@ -92,13 +92,14 @@ fn every_refusal_comes_and_a_third_is_accepted() {
         }
     }
     for (routine, counts) in ["reader", "rewriter", "finder"].iter().zip(&counts) {
-        println!("{routine}: accepted {}, refused 1 to 13: {:?}", counts[0], &counts[1..]);
+        println!("{routine}: accepted {}, refused 1 to 16: {:?}", counts[0], &counts[1..]);
         assert!(u64::from(counts[0]) * 3 >= MANY_SEEDS, "{routine} accepts {}", counts[0]);
     }
-    assert!(counts[2].iter().all(|&count| count > 0), "finder: {:?}", counts[2]);
-    for routine in &counts[..2] {
-        assert_eq!(routine[12], 0);
-        assert!((1..=13).filter(|&number| number != 12).all(|number| routine[number] > 0));
+    for (routine, counts) in counts.iter().enumerate() {
+        let numbers: Vec<usize> = (1..=16).filter(|&number| counts[number] > 0).collect();
+        let reader = [1, 2, 3, 4, 5, 6, 7, 8, 9, 10, 11, 13, 16];
+        let finder = [1, 2, 3, 4, 5, 6, 7, 8, 9, 10, 11, 12, 13, 16];
+        assert_eq!(numbers, if routine < 2 { &reader[..] } else { &finder });
     }
 }
 
@@ -114,7 +115,7 @@ fn a_refusal_has_its_offset() {
         let fits = match number {
             1 | 13 => offset == 0,
             2 => is_line(&list),
-            3..=5 | 7..=10 => is_command,
+            3..=5 | 7..=10 | 16 => is_command,
             // an argument, or the empty first line of a text
             6 => is_command || stream[offset..].starts_with(b"\n+"),
             11 => offset == stream.len(),
@@ -141,7 +142,7 @@ fn command_at_fault(stream: &[u8], list: &[u8]) -> usize {
 fn all_before_a_faulty_command_is_sound() {
     for seed in 0..SEEDS {
         let Case { stream, list, .. } = case(seed);
-        let Err(Refusal { number: number @ 3..=10, offset }) = read(&stream, &list, NO_LIMIT) else {
+        let Err(Refusal { number: number @ (3..=10 | 16), offset }) = read(&stream, &list, NO_LIMIT) else {
             continue;
         };
         let place = command_at_fault(&stream, &list);

@@ -8,10 +8,10 @@ pub struct ListFont {
     pub bytes: Vec<u8>,
 }
 
-/// Bytes that glyphs are made of.
-pub const GLYPH_BYTES: [u8; 14] = *b"abcde#5-0+\x00\x80\xff~";
+/// Bytes that glyphs are made of, those next to the ones barred by 2026-06 too.
+pub const GLYPH_BYTES: [u8; 14] = *b"abcde#5-0+!\x80\xff~";
 
-const FONT_NAMES: [&[u8]; 7] = [b"TR", b"TI", b"R", b"F#1", b"\x00\xfe", b"a=b", &[b'n'; 64]];
+const FONT_NAMES: [&[u8]; 7] = [b"TR", b"TI", b"R", b"F#1", b"\x80\xfe", b"a=b", &[b'n'; 64]];
 
 /// A sound list, and what it holds. Its first font has a width for every glyph byte.
 pub fn sound_list(random: &mut Random) -> (Vec<u8>, Vec<ListFont>) {

@@ -3,6 +3,7 @@
 use super::damage::damage;
 use super::list::GLYPH_BYTES;
 use super::random::Random;
+use crate::bytes::{is_barred, is_whitespace};
 use crate::find::{QueryGlyph, GLYPH_LIMIT};
 use crate::refusal::QUERY_LIMIT;
 use crate::{read, Record, Rooms};
@@ -90,7 +91,7 @@ fn query_glyph(stream: &[u8], record: &Record) -> QueryGlyph {
 }
 
 fn index_name(index: u32) -> Vec<u8> {
-    let byte = u8::try_from(index).ok().filter(|byte| !b" \t\n".contains(byte));
+    let byte = u8::try_from(index).ok().filter(|&byte| !is_whitespace(byte) && !is_barred(byte));
     byte.map_or_else(|| index.to_string().into_bytes(), |byte| vec![byte])
 }
 

@@ -360,7 +360,7 @@ impl<'a> Writer<'a> {
     }
 
     fn name(&mut self) -> Vec<u8> {
-        let names: [&[u8]; 8] = [b"'e", b"ab", b"u0065_0301", b"#x", b"-1", b"07", b"\x00\xff", b"ps"];
+        let names: [&[u8]; 8] = [b"'e", b"ab", b"u0065_0301", b"#x", b"-1", b"07", b"\x80\xff", b"ps"];
         match self.random.below(12) {
             0 => vec![b'n'; 64],
             1 => vec![b'\x80'; 1 + self.random.below(63)],
