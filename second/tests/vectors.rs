@@ -21,12 +21,12 @@ fn run_file(name: &str, least: usize) {
 
 #[test]
 fn readings_hold() {
-    run_file("readings.vec", 447);
+    run_file("readings.vec", 463);
 }
 
 #[test]
 fn scope_holds() {
-    run_file("scope.vec", 473);
+    run_file("scope.vec", 490);
 }
 
 #[test]
@@ -37,6 +37,11 @@ fn sources_hold() {
 #[test]
 fn request_2026_02_holds() {
     run_file("2026-02.vec", 33);
+}
+
+#[test]
+fn request_2026_06_holds() {
+    run_file("2026-06.vec", 647);
 }
 
 #[test]
