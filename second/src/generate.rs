@@ -1,5 +1,6 @@
 //! Generated inputs: the same case for the same seed, always.
 
+pub mod barred;
 pub mod damage;
 pub mod list;
 pub mod outline;
@@ -22,7 +23,7 @@ pub struct Case {
 }
 
 /// The case of a seed: mostly sound, else with numbers near their limits, with slips, with arguments
-/// outside their limits, damaged, with little room or, seldom, too long.
+/// outside their limits, with barred bytes, damaged, with little room or, seldom, too long.
 pub fn case(seed: u64) -> Case {
     let mut random = Random::new(seed);
     let kind = random.below(100);
@@ -30,11 +31,13 @@ pub fn case(seed: u64) -> Case {
         edges: (40..55).contains(&kind),
         slips: (55..67).contains(&kind),
         faults: (67..75).contains(&kind),
+        barred: (92..97).contains(&kind),
     };
     let mut case = sound_case(&mut random, manner);
     match kind {
-        75..=94 => damage_case(&mut random, &mut case),
-        95..=99 if random.once_in(10) => lengthen(&mut random, &mut case),
+        75..=91 => damage_case(&mut random, &mut case),
+        92..=96 => bar_case(&mut random, &mut case),
+        97..=99 if random.once_in(6) => lengthen(&mut random, &mut case),
         _ => {}
     }
     if random.once_in(8) {
@@ -61,6 +64,20 @@ fn damage_case(random: &mut Random, case: &mut Case) {
             damage::damage(random, &mut case.query);
         }
         _ => damage::damage(random, &mut case.stream),
+    }
+}
+
+/// Puts barred bytes in the names of the list or the query too, at times next to other damage.
+fn bar_case(random: &mut Random, case: &mut Case) {
+    let kind = random.below(12);
+    if kind < 2 {
+        barred::bar_line(random, &mut case.list, b"font=");
+    }
+    if (1..4).contains(&kind) {
+        barred::bar_line(random, &mut case.query, b"glyph=");
+    }
+    if kind < 4 && random.once_in(4) {
+        damage_case(random, case);
     }
 }
 

@@ -3,8 +3,10 @@
 use second::bytes::skip_whitespace_and_comments;
 use second::command::{scan, Command};
 use second::find::{read_query, QueryGlyph};
+use second::generate::barred::barred_byte;
 use second::generate::outline::{outline, write_outline, OUTLINE_LIST};
 use second::generate::random::Random;
+use second::generate::stream::barred::KINDS;
 use second::generate::stream::fault::{arguments_of, places, Argument, FORMS};
 use second::generate::stream::Manner;
 use second::generate::{case, sound_case, Case};
@@ -381,6 +383,201 @@ fn faults_come_at_every_argument_place() {
     }
     assert_eq!(counts.len(), places().len());
     assert!(empty_lines > 20 && behind_stop > 100);
+}
+
+/// 2026-06, once more: "any byte 0 to 8, 11 to 31 or 127".
+fn is_barred(byte: u8) -> bool {
+    byte == 127 || (byte < 32 && byte != 9 && byte != 10)
+}
+
+/// A line, or a part of one, with a letter for every barred byte.
+fn with_letters(bytes: &[u8]) -> Vec<u8> {
+    bytes.iter().map(|&byte| if is_barred(byte) { b'a' } else { byte }).collect()
+}
+
+/// A stream with a letter for every barred byte on the line from a place on: "All arguments of a command
+/// stand on its line".
+fn with_letters_from(stream: &[u8], place: usize) -> Vec<u8> {
+    let end = run_end(stream, place, |byte| byte != b'\n');
+    [&stream[..place], &with_letters(&stream[place..end]), &stream[end..]].concat()
+}
+
+/// The kind of a command that has a name, a glyph or a word, and where that stands.
+fn name_at(stream: &[u8], place: usize) -> Option<(&'static str, Range<usize>)> {
+    let scanned = scan(&with_letters_from(stream, place), place).ok()?;
+    let name = scanned.command.name()?;
+    let letters = match scanned.command {
+        Command::Pair { .. } => "00",
+        Command::Control { letter, .. } => {
+            KINDS.into_iter().find(|kind| kind.as_bytes() == [b'x', letter])?
+        }
+        _ => KINDS.into_iter().find(|kind| kind.as_bytes() == [stream[place]])?,
+    };
+    Some((letters, name.place..name.end()))
+}
+
+/// Where in a name its barred bytes stand, if there are any: 0 for all bytes of it, 1 for the first alone,
+/// 2 for the last alone, 3 for others.
+fn barred_places(name: &[u8]) -> Option<usize> {
+    let places: Vec<usize> = (0..name.len()).filter(|&place| is_barred(name[place])).collect();
+    match places[..] {
+        [] => None,
+        _ if places.len() == name.len() => Some(0),
+        [0] => Some(1),
+        [place] if place + 1 == name.len() => Some(2),
+        _ => Some(3),
+    }
+}
+
+/// 2026-06: an accepted stream has no barred byte in a name; one in the place of any byte of a name is 16 at
+/// that command, and nothing else.
+#[test]
+fn a_barred_byte_in_a_name_is_16() {
+    let mut counts = BTreeMap::new();
+    for (seed, case, _) in accepted(SEEDS) {
+        let widths = read_list(&case.list).unwrap();
+        let mut walk = Walk::new(&case.stream, &widths);
+        let mut random = Random::new(seed);
+        while let Some(step) = walk.step(&mut Vec::new()).unwrap() {
+            let Some(name) = step.command.name() else { continue };
+            assert!(!name.of(&case.stream).iter().any(|&byte| is_barred(byte)), "seed {seed}");
+            let any = random.below(name.length);
+            let place = name.place + *random.pick(&[0, any, name.length - 1]);
+            let mut stream = case.stream.clone();
+            stream[place] = barred_byte(&mut random);
+            let refusal = read(&stream, &case.list, NO_LIMIT).err();
+            let expected = Some(Refusal { number: 16, offset: step.place });
+            assert_eq!(refusal, expected, "seed {seed}: byte {} at {place}", stream[place]);
+            let (kind, range) = name_at(&stream, step.place).unwrap();
+            assert_eq!(range, name.place..name.end(), "seed {seed}");
+            *counts.entry(kind).or_insert(0) += 1;
+        }
+    }
+    println!("names {counts:?}");
+    assert!(KINDS.iter().all(|kind| counts.get(kind).is_some_and(|&count| count > 1_000)));
+}
+
+/// Each kind of name is the one at fault in many streams, with the barred byte first, last, in the middle and
+/// alone; with a letter in its place there is no 16 at that command, and at times another refusal.
+#[test]
+fn barred_bytes_come_in_every_kind_of_name() {
+    let (mut counts, mut behind, mut covered) = (BTreeMap::new(), BTreeMap::new(), BTreeMap::new());
+    for seed in 0..MANY_SEEDS {
+        let Case { stream, list, .. } = case(seed);
+        match read(&stream, &list, NO_LIMIT) {
+            Err(Refusal { number: 16, offset }) => {
+                let (kind, range) = name_at(&stream, offset).unwrap();
+                let places = barred_places(&stream[range]).unwrap_or_else(|| panic!("seed {seed}"));
+                *counts.entry((kind, places)).or_insert(0) += 1;
+                let next = read(&with_letters_from(&stream, offset), &list, NO_LIMIT).err();
+                let next = next.filter(|refusal| refusal.offset == offset).map(|refusal| refusal.number);
+                assert!(matches!(next, None | Some(7..=10)), "seed {seed}: {next:?}");
+                *behind.entry(next).or_insert(0) += 1;
+            }
+            Err(refusal @ Refusal { number: 4..=7, .. }) => {
+                let place = command_at_fault(&stream, &list);
+                let is_named = has_barred_name(&stream, place);
+                let next = read(&with_letters_from(&stream, place), &list, NO_LIMIT).err();
+                if is_named && next == Some(refusal) {
+                    *covered.entry(refusal.number).or_insert(0) += 1;
+                }
+            }
+            _ => {}
+        }
+    }
+    println!("at fault {counts:?}, else {behind:?}; another number first {covered:?}");
+    for kind in KINDS {
+        let places = if ["c", "00"].contains(&kind) { 0..=0 } else { 0..=3 };
+        for place in places {
+            let count = counts.get(&(kind, place)).copied().unwrap_or(0);
+            assert!(count >= 20, "{kind}, {place}: {count}");
+        }
+    }
+    let least = [(None, 300), (Some(7), 100), (Some(8), 50), (Some(9), 50), (Some(10), 30)];
+    assert!(least.iter().all(|(number, least)| behind.get(number).is_some_and(|count| count >= least)));
+    assert!((4..=7).all(|number| covered.get(&number).is_some_and(|&count| count >= 50)));
+}
+
+/// Whether the bytes behind the letters of a command of these kinds hold a barred one before any comment or
+/// line end.
+fn has_barred_name(stream: &[u8], place: usize) -> bool {
+    let end = run_end(stream, place, |byte| byte != b'\n');
+    let line = &stream[place..end];
+    let word = match line {
+        [b'x', ..] => {
+            let start = run_end(line, 1, |byte| b" \t".contains(&byte));
+            let is_named = line.get(start).is_some_and(|byte| b"TFf".contains(byte));
+            is_named.then(|| run_end(line, start, |byte| !b" \t".contains(&byte)))
+        }
+        [letter, ..] => b"cCtu0123456789".contains(letter).then_some(1),
+        [] => None,
+    };
+    word.is_some_and(|word| line[word..].iter().any(|&byte| is_barred(byte)))
+}
+
+/// In lists and queries too: the wrong line is one with a barred byte in its name, and with a letter in its
+/// place another line is wrong, or none.
+#[test]
+fn barred_bytes_come_in_lists_and_queries() {
+    let mut counts = BTreeMap::new();
+    for seed in 0..MANY_SEEDS {
+        let Case { stream, list, query, .. } = case(seed);
+        let Err(Refusal { number: number @ (2 | 12), offset }) = find(&stream, &list, &query, NO_LIMIT)
+        else {
+            continue;
+        };
+        let (bytes, key) = if number == 2 { (&list, "font=") } else { (&query, "glyph=") };
+        let end = run_end(bytes, offset, |byte| byte != b'\n');
+        let Some(name) = bytes[offset..end].strip_prefix(key.as_bytes()) else { continue };
+        let changed = with_letters_from(bytes, offset);
+        let (list, query) = if number == 2 { (&changed, &query) } else { (&list, &changed) };
+        let next = find(&stream, list, query, NO_LIMIT).err();
+        if next != Some(Refusal { number, offset }) {
+            let places = barred_places(name).unwrap_or_else(|| panic!("seed {seed}"));
+            *counts.entry((key, places)).or_insert(0) += 1;
+        }
+    }
+    println!("names {counts:?}");
+    assert_eq!(counts.len(), 8);
+    assert!(counts.values().all(|&count| count >= 20));
+}
+
+/// Behind `x s` such a command is 7 at its first byte.
+#[test]
+fn barred_bytes_come_behind_the_stop() {
+    let mut count = 0;
+    for seed in 0..MANY_SEEDS {
+        let Case { stream, list, .. } = case(seed);
+        if let Err(Refusal { number: 7, offset }) = read(&stream, &list, NO_LIMIT) {
+            let is_stopped = read(&stream[..offset], &list, NO_LIMIT).is_ok();
+            let is_barred = scan(&stream, offset).is_err_and(|refusal| refusal.number == 16);
+            count += u32::from(is_stopped && is_barred);
+        }
+    }
+    println!("{count} streams");
+    assert!(count > 100);
+}
+
+/// In accepted streams barred bytes stand in comments, in texts and in the rest of `x` words.
+#[test]
+fn barred_bytes_come_where_they_may_stand() {
+    let [mut comments, mut texts, mut words] = [0; 3];
+    for (seed, case, _) in accepted(SEEDS) {
+        let widths = read_list(&case.list).unwrap();
+        let (mut walk, mut end) = (Walk::new(&case.stream, &widths), 0);
+        let has_barred = |range: Range<usize>| case.stream[range].iter().any(|&byte| is_barred(byte));
+        while let Some(step) = walk.step(&mut Vec::new()).unwrap() {
+            comments += u32::from(has_barred(end..step.place));
+            end = step.end;
+            match step.command {
+                Command::Text { first_line } => texts += u32::from(has_barred(first_line.place..end)),
+                Command::Control { .. } => words += u32::from(has_barred(step.place..end)),
+                _ => assert!(!has_barred(step.place..end), "seed {seed}"),
+            }
+        }
+    }
+    println!("comments {comments}, texts {texts}, words {words}");
+    assert!([comments, texts, words].iter().all(|&count| count > 1_500));
 }
 
 /// A spelling has no freedom left: only its own commands, one a line, and no motion in vain.

@@ -75,7 +75,8 @@ fn flip(random: &mut Random, bytes: &mut [u8]) {
     }
 }
 
-fn lines(bytes: &[u8]) -> Vec<Vec<u8>> {
+/// The lines, each with its newline.
+pub fn lines(bytes: &[u8]) -> Vec<Vec<u8>> {
     bytes.split_inclusive(|&byte| byte == b'\n').map(<[u8]>::to_vec).collect()
 }
 

@@ -1,8 +1,9 @@
 //! Sound width lists.
 
 use super::random::Random;
+use crate::bytes::is_barred;
 
-/// A font of a generated list: its name and the bytes that have a width.
+/// A font of a generated list: its name and the bytes that have a width and may stand in a word.
 pub struct ListFont {
     pub name: Vec<u8>,
     pub bytes: Vec<u8>,
@@ -13,6 +14,9 @@ pub const GLYPH_BYTES: [u8; 14] = *b"abcde#5-0+!\x80\xff~";
 
 const FONT_NAMES: [&[u8]; 7] = [b"TR", b"TI", b"R", b"F#1", b"\x80\xfe", b"a=b", &[b'n'; 64]];
 
+/// Bytes that have a width: glyph bytes, and barred ones, whose "width can no longer be used".
+const WIDTH_BYTES: [u8; 17] = *b"abcde#5-0+!\x80\xff~\x00\x1f\x7f";
+
 /// A sound list, and what it holds. Its first font has a width for every glyph byte.
 pub fn sound_list(random: &mut Random) -> (Vec<u8>, Vec<ListFont>) {
     let unitwidth = *random.pick(&[1, 2, 3, 7, 10, 1000, 1000, 1000, 100_000]);
@@ -22,9 +26,10 @@ pub fn sound_list(random: &mut Random) -> (Vec<u8>, Vec<ListFont>) {
     let first = random.below(FONT_NAMES.len());
     for number in 0..count {
         let name = FONT_NAMES[(first + number) % FONT_NAMES.len()].to_vec();
-        let bytes = if number == 0 { rising(&GLYPH_BYTES) } else { some_bytes(random) };
+        let bytes = if number == 0 { rising(&WIDTH_BYTES) } else { some_bytes(random) };
         list.extend([b"font=", &name[..], b"\n"].concat());
         bytes.iter().for_each(|byte| list.extend(pair(random, *byte).bytes()));
+        let bytes = bytes.into_iter().filter(|&byte| !is_barred(byte)).collect();
         fonts.push(ListFont { name, bytes });
     }
     (list, fonts)
@@ -49,7 +54,7 @@ fn rising(bytes: &[u8]) -> Vec<u8> {
 
 fn some_bytes(random: &mut Random) -> Vec<u8> {
     let count = random.below(6);
-    let bytes: Vec<u8> = (0..count).map(|_| *random.pick(&GLYPH_BYTES)).collect();
+    let bytes: Vec<u8> = (0..count).map(|_| *random.pick(&WIDTH_BYTES)).collect();
     rising(&bytes)
 }
 

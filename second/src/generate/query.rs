@@ -1,5 +1,6 @@
 //! Queries: sound ones, most of which occur in a stream, and wrong ones.
 
+use super::barred::bar_line;
 use super::damage::damage;
 use super::list::GLYPH_BYTES;
 use super::random::Random;
@@ -139,7 +140,7 @@ const WRONG_LINES: [&[u8]; 20] = [
 /// A sound query made wrong.
 pub fn wrong_query(random: &mut Random, sound: &[u8]) -> Vec<u8> {
     let mut query = sound.to_vec();
-    match random.below(12) {
+    match random.below(13) {
         0 => query.clear(),
         1 => drop(query.pop()),
         2 => query = [b"gap=any\n", sound].concat(),
@@ -155,6 +156,7 @@ pub fn wrong_query(random: &mut Random, sound: &[u8]) -> Vec<u8> {
         }
         9 => query = many_glyphs(random),
         10 => lengthen_query(random, &mut query),
+        11 => bar_line(random, &mut query, b"glyph="),
         _ => damage(random, &mut query),
     }
     query

@@ -1,5 +1,6 @@
 //! Searches: a stream and its list with a query that occurs in it, or nearly.
 
+use super::barred::bar_line;
 use super::damage::damage;
 use super::outline::{outline, repeated_outline, write_outline, OUTLINE_LIST};
 use super::query::{cut_query, query, wrong_query};
@@ -22,7 +23,7 @@ pub fn search(seed: u64) -> Case {
         damage(&mut random, &mut search.stream);
     }
     if (75..78).contains(&kind) || kind >= 97 {
-        damage(&mut random, &mut search.list);
+        wrong_list(&mut random, &mut search.list);
     }
     if kind == 74 && random.once_in(4) {
         let more = random.below(2);
@@ -31,13 +32,23 @@ pub fn search(seed: u64) -> Case {
     search
 }
 
-/// A search whose stream, list and query were made by the rules, or with slips in the stream.
+fn wrong_list(random: &mut Random, list: &mut Vec<u8>) {
+    if random.once_in(4) {
+        bar_line(random, list, b"font=");
+    } else {
+        damage(random, list);
+    }
+}
+
+/// A search whose stream, list and query were made by the rules, or with slips or barred bytes in the
+/// stream.
 fn sound_search(random: &mut Random) -> Case {
     let mut case = match random.below(20) {
         0..=8 => outlined(random, outline),
         9..=13 => outlined(random, repeated_outline),
         14..=17 => sound_case(random, Manner::default()),
         18 => sound_case(random, Manner { edges: true, ..Manner::default() }),
+        _ if random.once_in(2) => sound_case(random, Manner { barred: true, ..Manner::default() }),
         _ => sound_case(random, Manner { slips: true, ..Manner::default() }),
     };
     let reading = read(&case.stream, &case.list, Rooms::default());

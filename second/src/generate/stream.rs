@@ -1,5 +1,6 @@
 //! Sound streams that use every command and every freedom of spelling.
 
+pub mod barred;
 pub mod fault;
 
 use super::list::{ListFont, GLYPH_BYTES};
@@ -14,6 +15,8 @@ pub struct Manner {
     pub slips: bool,
     /// now and then a command with an argument outside its limit, in the prologue and behind `x s` too
     pub faults: bool,
+    /// now and then a barred byte in a name or where it may stand, in the prologue and behind `x s` too
+    pub barred: bool,
 }
 
 /// What must stand behind a command before the next one.
@@ -190,9 +193,18 @@ impl<'a> Writer<'a> {
         self.manner.faults && self.random.once_in(turns)
     }
 
+    /// The same for barred bytes.
+    fn is_barred(&mut self, turns: usize) -> bool {
+        self.manner.barred && self.random.once_in(turns)
+    }
+
     fn write_prologue(&mut self) {
         if self.is_faulty(24) {
             let typesetter = self.fault_at("xT", 0);
+            self.write(typesetter);
+        }
+        if self.is_barred(24) {
+            let typesetter = self.barred_at("xT");
             self.write(typesetter);
         }
         let name = self.name();
@@ -206,6 +218,10 @@ impl<'a> Writer<'a> {
         let quantum = *self.random.pick(&[1, 1, 1, 1, 2, 4, 24, 99_999_999]);
         let resolution = self.control_piece(b'r', &[72_000, quantum, 1], None);
         self.write(resolution);
+        if self.is_barred(24) {
+            let barred = self.barred();
+            self.write(barred);
+        }
         let init = self.control_piece(b'i', &[], None);
         self.write(init);
     }
@@ -223,6 +239,9 @@ impl<'a> Writer<'a> {
         }
         if self.is_faulty(6) {
             return self.fault();
+        }
+        if self.is_barred(if self.has_page { 5 } else { 20 }) {
+            return self.barred();
         }
         if !self.has_page {
             return self.random.pick(&Self::EARLY)(self);
@@ -242,6 +261,10 @@ impl<'a> Writer<'a> {
         if self.is_faulty(6) {
             let fault = self.fault();
             self.write(fault);
+        }
+        if self.is_barred(3) {
+            let barred = self.barred();
+            self.write(barred);
         }
         if self.random.once_in(4) {
             return;
@@ -301,7 +324,7 @@ impl<'a> Writer<'a> {
     }
 
     fn comment(&mut self) -> Vec<u8> {
-        let comments: [&[u8]; 6] = [b"#", b"#c", b"# x s # h5", b"#\x00\xff\t", b"##", b"#+"];
+        let comments: [&[u8]; 6] = [b"#", b"#c", b"# x s # h5", b"#\x00\r\x7f\xff\t", b"##", b"#+"];
         self.random.part(&comments).to_vec()
     }
 
@@ -564,7 +587,7 @@ impl<'a> Writer<'a> {
 
     /// An `x` command: a word that begins with the letter, integers, perhaps a name.
     fn control_piece(&mut self, letter: u8, numbers: &[i64], name: Option<&[u8]>) -> Piece {
-        let tails: [&[u8]; 6] = [b"", b"", b"", b"#5", b"-word", b"long_word"];
+        let tails: [&[u8]; 6] = [b"", b"", b"", b"#5", b"-w\x01rd\x7f", b"long_word"];
         let spacer = self.spacer();
         let tail = self.random.part(&tails);
         let mut bytes = [b"x", &spacer[..], &[letter], tail].concat();
@@ -601,7 +624,7 @@ impl<'a> Writer<'a> {
     }
 
     fn text(&mut self) -> Piece {
-        let lines: [&[u8]; 8] = [b"", b"a b", b"#c", b"+", b" lead", b"trail ", b"\x00\xff", b"x s"];
+        let lines: [&[u8]; 8] = [b"", b"a b", b"#c", b"+", b" lead", b"trail ", b"\x00\r\x7f\xff", b"x s"];
         let mut bytes = self.control_piece(b'X', &[], None).bytes;
         let first = self.random.part(&lines);
         if !first.is_empty() {

@@ -114,6 +114,12 @@ impl Writer<'_> {
             [Pairs] => self.faulty_pairs(number, others),
             _ => self.faulty_parts(arguments, number, others),
         };
+        self.joined(letters, &parts)
+    }
+
+    /// The command of these letters and arguments, dummies aside where there are fewer.
+    pub(super) fn joined(&mut self, letters: &str, parts: &[Vec<u8>]) -> Piece {
+        let arguments = arguments_of(letters);
         let mut bytes = self.letters(letters);
         for (place, part) in parts.iter().enumerate() {
             let behind_string = match place {
@@ -141,8 +147,14 @@ impl Writer<'_> {
         bytes
     }
 
-    /// One part for each argument; a dummy may be missing where it has no fault.
-    fn faulty_parts(&mut self, arguments: &[Argument], number: usize, others: bool) -> Vec<Vec<u8>> {
+    /// One part for each argument; a dummy may be missing where it has no fault. A number past the last
+    /// argument is none.
+    pub(super) fn faulty_parts(
+        &mut self,
+        arguments: &[Argument],
+        number: usize,
+        others: bool,
+    ) -> Vec<Vec<u8>> {
         let mut parts = Vec::new();
         for (place, argument) in arguments.iter().enumerate() {
             let is_faulty = place == number || (others && self.random.once_in(2));
