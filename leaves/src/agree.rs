@@ -7,7 +7,7 @@ use second::refusal::STREAM_LIMIT;
 #[derive(Clone, Debug, Default, PartialEq, Eq)]
 pub struct Seen {
     pub tags: [u64; 25],
-    pub refusals: [u64; 7],
+    pub refusals: [u64; 17],
 }
 
 impl Seen {

@@ -23,7 +23,7 @@
 //! | 18, 22, 23 | `x i`; `x X`; `x s` | none |
 //! | 20 | `x f` | the position; the name's place and length |
 //! | 21 | `x p` `x t` `x H` `x S` `x u` | its letter |
-//! | 24 | refused | 3, 4, 5 or 6; the place: the command's, for 6 that of the argument outside its limit (2026-12) |
+//! | 24 | refused | 3, 4, 5, 6 or 16 (2026-06); the place: the command's, for 6 that of the argument outside its limit (2026-12) |
 //!
 //! Case 0: no byte stands at the place; the list or query is too long (refusal 1).
 

@@ -1,5 +1,6 @@
 //! Generated commands, width lists and queries: the same for the same seed, always.
 
+use second::generate::barred::{bar, bar_line};
 use second::generate::damage::damage;
 use second::generate::list::{of_length, sound_list};
 use second::generate::random::Random;
@@ -140,11 +141,18 @@ fn spacer(random: &mut Random) -> Vec<u8> {
 fn argument_of(random: &mut Random, kind: u8) -> Vec<u8> {
     match kind {
         b'i' => integer(random),
-        b'g' => vec![name_byte(random)],
-        b'n' => name(random),
+        b'g' => {
+            let glyph = name_of(random, 1);
+            perhaps_barred(random, glyph)
+        }
+        b'n' => {
+            let name = name(random);
+            perhaps_barred(random, name)
+        }
         b'w' => {
             let length = if random.once_in(30) { 300 } else { 5 };
-            name_of(random, 1 + length)
+            let word = name_of(random, 1 + length);
+            perhaps_barred(random, word)
         }
         b'd' if random.once_in(2) => integer(random),
         b'd' => Vec::new(),
@@ -166,18 +174,22 @@ fn integer(random: &mut Random) -> Vec<u8> {
     [minus, digits].concat()
 }
 
-fn name_byte(random: &mut Random) -> u8 {
-    *random.pick(b"abcxDt#-+5~0\x00\x08\x0b\x80\xa0\xff")
-}
-
 fn name_of(random: &mut Random, length: usize) -> Vec<u8> {
-    (0..length).map(|_| name_byte(random)).collect()
+    (0..length).map(|_| *random.pick(b"abcxDt#-+5~0!@_\x80\xa0\xff")).collect()
 }
 
 /// At times of 62 to 66 bytes.
 fn name(random: &mut Random) -> Vec<u8> {
     let length = if random.once_in(8) { 62 + random.below(5) } else { 1 + random.below(6) };
     name_of(random, length)
+}
+
+/// Once in six times with a barred byte, the last one mostly.
+fn perhaps_barred(random: &mut Random, mut name: Vec<u8>) -> Vec<u8> {
+    if random.once_in(6) {
+        bar(random, &mut name);
+    }
+    name
 }
 
 /// At times 62 to 66 or more integers, and at times an odd number.
@@ -218,6 +230,9 @@ pub fn list(random: &mut Random) -> Vec<u8> {
         _ => {}
     }
     let mut list = if random.once_in(2) { sound_list(random).0 } else { edge_list(random) };
+    if random.once_in(8) {
+        bar_line(random, &mut list, b"font=");
+    }
     if random.once_in(3) {
         damage(random, &mut list);
     }
@@ -280,6 +295,9 @@ pub fn query(random: &mut Random) -> Vec<u8> {
     }
     if random.once_in(20) {
         query.extend(b"gap=any\n");
+    }
+    if random.once_in(8) {
+        bar_line(random, &mut query, b"glyph=");
     }
     if random.once_in(3) {
         damage(random, &mut query);

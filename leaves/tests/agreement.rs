@@ -13,6 +13,9 @@ const STREAMS: u64 = 5_000;
 const LISTS: u64 = 60_000;
 const QUERIES: u64 = 60_000;
 
+/// The refusals that a command's form alone decides.
+const REFUSALS: [usize; 5] = [3, 4, 5, 6, 16];
+
 /// Prints a line even where the test passes.
 fn say(line: String) {
     let _ = writeln!(std::io::stderr(), "{line}");
@@ -24,10 +27,11 @@ fn vector_cases() -> Vec<Case> {
 
 /// Every case of a command and every refusal of its form came at least `least` times.
 fn assert_all_seen(label: &str, seen: &Seen, least: u64) {
-    say(format!("{label}: cases 0 to 24 {:?}, refusals 3 to 6 {:?}", seen.tags, &seen.refusals[3..]));
+    let refusals = REFUSALS.map(|number| seen.refusals[number]);
+    say(format!("{label}: cases 0 to 24 {:?}, refusals {REFUSALS:?} {refusals:?}", seen.tags));
     assert!(seen.tags.iter().all(|&count| count >= least), "{label}: {:?}", seen.tags);
-    assert!(seen.refusals[3..].iter().all(|&count| count >= least), "{label}: {:?}", seen.refusals);
-    assert_eq!(seen.tags[24], seen.refusals[3..].iter().sum(), "{label}: another refusal number");
+    assert!(refusals.iter().all(|&count| count >= least), "{label}: {:?}", seen.refusals);
+    assert_eq!(seen.tags[24], refusals.iter().sum(), "{label}: another refusal number");
 }
 
 /// Cases 0, 1 and 2 of a list or query came at least `least` times each.
@@ -132,6 +136,8 @@ fn answers_by_hand() {
         (b"x font 1 TR\n", Code::new(20, &[1, 9, 2], 11)),
         (b"mg 65537", Code::new(24, &[6, 3], 0)),
         (b"Df 40000 x", Code::new(24, &[5, 0], 0)),
+        (b"ta\x01 7\n", Code::new(24, &[16, 0], 0)),
+        (b"ta\x01 100000000\n", Code::new(24, &[6, 4], 0)),
         (b" w", Code::new(24, &[3, 0], 0)),
     ];
     for (stream, answer) in answers {

@@ -131,7 +131,7 @@ pub struct Seen {
     pub needless: u64,
     /// inputs whose spelling is too long for any room
     pub hopeless: u64,
-    pub answers: [[u64; 14]; 6],
+    pub answers: [[u64; 17]; 6],
 }
 
 impl Seen {
@@ -167,7 +167,7 @@ impl Seen {
             counts.join(", ")
         ));
         self.measures.iter().for_each(|&measure| self.assert_measure(label, measure, least));
-        for number in 1..=13 {
+        for number in 1..=16 {
             let times = self.times(number);
             let is_due = refusals.contains(&number);
             assert!(if is_due { times >= least } else { times == 0 }, "{label}: {number} came {times} times");

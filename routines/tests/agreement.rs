@@ -14,7 +14,7 @@ use second::vectors::{self, Case, BODY_HEAD, BODY_TAIL, SAMPLE_LIST};
 const INPUTS: u64 = 100_000;
 
 /// The refusal numbers that the reader can give.
-const REFUSALS: [usize; 12] = [1, 2, 3, 4, 5, 6, 7, 8, 9, 10, 11, 13];
+const REFUSALS: [usize; 13] = [1, 2, 3, 4, 5, 6, 7, 8, 9, 10, 11, 13, 16];
 
 fn vector_cases() -> Vec<Case> {
     vectors::all_cases().expect("the vectors can be read")

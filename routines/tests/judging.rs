@@ -58,7 +58,7 @@ fn run(stream: &[u8], list: &[u8], random: &mut Random) -> Result<JudgeResult, S
 
 /// How often each refusal came, 0 for accepted.
 #[derive(Default)]
-struct Seen([u64; 14]);
+struct Seen([u64; 17]);
 
 impl Seen {
     fn count(&mut self, answer: JudgeResult) {
@@ -67,9 +67,9 @@ impl Seen {
 
     /// Accepted, and each refusal but 12 and 13, at least so often; those never.
     fn assert_all(&self, label: &str, least: u64) {
-        say(&format!("{label}: {:?} accepted and refused 1 to 13", self.0));
+        say(&format!("{label}: {:?} accepted and refused 1 to 16", self.0));
         for (number, &times) in self.0.iter().enumerate() {
-            let is_due = number < 12;
+            let is_due = number < 12 || number == 16;
             assert!(if is_due { times >= least } else { times == 0 }, "{label}: {number} came {times} times");
         }
     }
