@@ -1,7 +1,7 @@
 //! 01, "Refusal numbers and their order", and the number of 2026-06.
 
-/// A refusal: its number in 01's table and the offset that goes with it, which for 6 is the argument's
-/// by 2026-12.
+/// A refusal: its number, of 01's table or 16 of 2026-06, and the offset that goes with it, which for 6
+/// is the argument's by 2026-12.
 #[derive(Clone, Copy, Debug, PartialEq, Eq)]
 pub struct Refusal {
     pub number: u8,
@@ -85,7 +85,7 @@ pub fn reason(number: u8) -> &'static str {
         NO_STOP => "no `x s`",
         QUERY => "wrong line in the query, or an empty query",
         NO_ROOM => "records, entries, hits or spelling need more room than lent, or the spelling is over 16,777,216 bytes",
-        BARRED_BYTE => "byte 0 to 8, 11 to 31 or 127 in a name or a glyph",
+        BARRED_BYTE => "byte 0 to 8, 11 to 31 or 127 in a name, a glyph or a word",
         _ => "unknown refusal",
     }
 }

@@ -71,7 +71,7 @@ pub struct Case {
 
 /// How many cases the vector files have at the least: every test that runs them asks for so many, so
 /// that a file that is lost is missed.
-pub const LEAST_CASES: usize = 1_888;
+pub const LEAST_CASES: usize = 1_980;
 
 /// The cases of every vector file of the repository, in the order of the files' names.
 pub fn all_cases() -> Result<Vec<Case>, String> {

@@ -390,6 +390,22 @@ fn is_barred(byte: u8) -> bool {
     byte == 127 || (byte < 32 && byte != 9 && byte != 10)
 }
 
+/// The same bytes one by one.
+const BARRED: [u8; 31] = [
+    0, 1, 2, 3, 4, 5, 6, 7, 8, 11, 12, 13, 14, 15, 16, 17, 18, 19, 20, 21, 22, 23, 24, 25, 26, 27, 28, 29,
+    30, 31, 127,
+];
+
+/// The generator and the second program bar the bytes of 2026-06, and no others.
+#[test]
+fn the_barred_bytes_are_those_of_the_request() {
+    for byte in 0..=255 {
+        let expected = BARRED.contains(&byte);
+        assert_eq!(second::bytes::is_barred(byte), expected, "byte {byte}");
+        assert_eq!(is_barred(byte), expected, "byte {byte}");
+    }
+}
+
 /// A line, or a part of one, with a letter for every barred byte.
 fn with_letters(bytes: &[u8]) -> Vec<u8> {
     bytes.iter().map(|&byte| if is_barred(byte) { b'a' } else { byte }).collect()
@@ -466,13 +482,15 @@ fn barred_bytes_come_in_every_kind_of_name() {
         let Case { stream, list, .. } = case(seed);
         match read(&stream, &list, NO_LIMIT) {
             Err(Refusal { number: 16, offset }) => {
+                let changed = with_letters_from(&stream, offset);
+                let next = read(&changed, &list, NO_LIMIT).err();
+                let next = next.filter(|_| command_at_fault(&changed, &list) == offset);
+                let next = next.map(|refusal| refusal.number);
+                assert!(matches!(next, None | Some(7..=10)), "seed {seed}: {next:?}");
+                *behind.entry(next).or_insert(0) += 1;
                 let (kind, range) = name_at(&stream, offset).unwrap();
                 let places = barred_places(&stream[range]).unwrap_or_else(|| panic!("seed {seed}"));
                 *counts.entry((kind, places)).or_insert(0) += 1;
-                let next = read(&with_letters_from(&stream, offset), &list, NO_LIMIT).err();
-                let next = next.filter(|refusal| refusal.offset == offset).map(|refusal| refusal.number);
-                assert!(matches!(next, None | Some(7..=10)), "seed {seed}: {next:?}");
-                *behind.entry(next).or_insert(0) += 1;
             }
             Err(refusal @ Refusal { number: 4..=7, .. }) => {
                 let place = command_at_fault(&stream, &list);

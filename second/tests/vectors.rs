@@ -41,7 +41,7 @@ fn request_2026_02_holds() {
 
 #[test]
 fn request_2026_06_holds() {
-    run_file("2026-06.vec", 647);
+    run_file("2026-06.vec", 739);
 }
 
 #[test]

@@ -1,7 +1,7 @@
 //! Sound width lists.
 
 use super::random::Random;
-use crate::bytes::is_barred;
+use crate::bytes::{is_barred, is_whitespace};
 
 /// A font of a generated list: its name and the bytes that have a width and may stand in a word.
 pub struct ListFont {
@@ -14,7 +14,7 @@ pub const GLYPH_BYTES: [u8; 14] = *b"abcde#5-0+!\x80\xff~";
 
 const FONT_NAMES: [&[u8]; 7] = [b"TR", b"TI", b"R", b"F#1", b"\x80\xfe", b"a=b", &[b'n'; 64]];
 
-/// Bytes that have a width: glyph bytes, and barred ones, whose "width can no longer be used".
+/// Bytes that mostly have a width: glyph bytes, and barred ones, whose "width can no longer be used".
 const WIDTH_BYTES: [u8; 17] = *b"abcde#5-0+!\x80\xff~\x00\x1f\x7f";
 
 /// A sound list, and what it holds. Its first font has a width for every glyph byte.
@@ -26,7 +26,12 @@ pub fn sound_list(random: &mut Random) -> (Vec<u8>, Vec<ListFont>) {
     let first = random.below(FONT_NAMES.len());
     for number in 0..count {
         let name = FONT_NAMES[(first + number) % FONT_NAMES.len()].to_vec();
-        let bytes = if number == 0 { rising(&WIDTH_BYTES) } else { some_bytes(random) };
+        let mut bytes = if number == 0 { WIDTH_BYTES.to_vec() } else { some_bytes(random) };
+        if random.once_in(4) {
+            let count = 1 + random.below(5);
+            bytes.extend((0..count).map(|_| random.byte()).filter(|&byte| !is_whitespace(byte)));
+        }
+        let bytes = rising(bytes);
         list.extend([b"font=", &name[..], b"\n"].concat());
         bytes.iter().for_each(|byte| list.extend(pair(random, *byte).bytes()));
         let bytes = bytes.into_iter().filter(|&byte| !is_barred(byte)).collect();
@@ -45,8 +50,7 @@ fn pair(random: &mut Random, byte: u8) -> String {
     format!("byte={byte}\nwidth={width}\n")
 }
 
-fn rising(bytes: &[u8]) -> Vec<u8> {
-    let mut bytes = bytes.to_vec();
+fn rising(mut bytes: Vec<u8>) -> Vec<u8> {
     bytes.sort_unstable();
     bytes.dedup();
     bytes
@@ -54,8 +58,7 @@ fn rising(bytes: &[u8]) -> Vec<u8> {
 
 fn some_bytes(random: &mut Random) -> Vec<u8> {
     let count = random.below(6);
-    let bytes: Vec<u8> = (0..count).map(|_| *random.pick(&WIDTH_BYTES)).collect();
-    rising(&bytes)
+    (0..count).map(|_| *random.pick(&WIDTH_BYTES)).collect()
 }
 
 /// A sound list of so many bytes, 300 to 100,000: pairs, then three fonts whose names take up the rest.
