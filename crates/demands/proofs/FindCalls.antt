@@ -27,7 +27,7 @@ use Rattle.laws_find.proofs.Exact.{hits-rise, hits-occur, occurs-hits}
 use Rattle.laws_answers.specs.Statements.{rowsIn, cmdsOf, Exact}
 use Rattle.laws_answers.specs.Statements as T
 use Rattle.laws_answers.proofs.Theorems.{keysIn, keys-by-outline, exactness, answered, queryText, roomy}
-use Rattle.laws_answers.proofs.Numbers.{numbers}
+use Rattle.laws_answers.proofs.Numbers.{not-13, numbers}
 use Rattle.laws_offsets.specs.Offsets.{FindOffset, OrRoom, Said}
 use Rattle.laws_offsets.proofs.Offsets.{offsets}
 use Rattle.laws_offsets.proofs.ByNumber.{by-number}
@@ -302,7 +302,7 @@ only-no-room s list q rs hs at rs′ hs′ c = go (refused-kept s list q rs hs r
   where
     go : Kept (length rs) (length hs) (find s list q) (notFound 13 at)
         → (gs : List Glyph) × (qs : List Wanted) × (is : List ℕ) × Accepted s list gs × WellFormed q qs × ListOf qs gs is × ((length rs < length gs) ⊎ (length hs < length is))
-    go (inl e) = absurd (omega (arith, numbers .find-up-to-12 s list q 13 at e))
+    go (inl e) = absurd (not-13 12 (omega arith) (numbers .find-numbers s list q 13 at e))
     go (inr (e, z, rows, is, f, less)) =
         let y : (x : Source s list q is) × (x .glyphs ≡ glyphsIn rows) = source s list q rows is f in
         let x : Source s list q is = y .0 in

@@ -1,5 +1,6 @@
 pub mod Allowed
 pub mod Forms
+pub mod Clear
 pub mod ReadCalls
 pub mod Places
 pub mod SpellCalls

@@ -28,12 +28,15 @@ use Rattle.laws_motion.proofs.Worded.{advances-hold, words-hold}
 use Rattle.laws_motion.proofs.Runs.{in-every-run, in-every-list}
 use Rattle.laws_motion.proofs.Needed.{reasons-hold, phases-hold}
 use Rattle.laws_motion.proofs.Held.{recorded-holds, entered-holds, settings-hold, ends-hold}
+use Rattle.laws_arguments.proofs.Names.{refusesBarred}
+use Rattle.laws_offsets.proofs.FontLines.{fontLines}
 use Rattle.laws_offsets.proofs.Framed as frame
 use Rattle.laws_answers.proofs.Judged.{judged}
 use Rattle.demands.specs.Demands as D
 use Rattle.demands.specs.Demands.{SoundList, Allowed, houseSpelling}
 use Rattle.demands.proofs.Allowed.{Stream, read-allowed}
 use Rattle.demands.proofs.Forms as forms
+use Rattle.demands.proofs.Clear.{each-clear, records-clear}
 use Rattle.demands.proofs.ReadCalls as read-calls
 use Rattle.demands.proofs.Places as places
 use Rattle.demands.proofs.SpellCalls as spell-calls
@@ -81,6 +84,15 @@ pub accept-exactly : D.AcceptExactly
 accept-exactly = record {
   where-allowed = λ s list rs es r rs′ es′ w end gs xs c l p q a. read-calls.accepts s list rs es r rs′ es′ c w end gs xs l a p q;
   only-where-allowed = λ s list rs es r rs′ es′ c h. read-calls.only-allowed s list rs es r rs′ es′ c h;
+}
+
+pub names-clear : D.NamesClear
+names-clear = record {
+  rule = refusesBarred;
+  forms = forms.barred-forms;
+  allowed = λ s w end gs xs a. each-clear s (a .commands) (a .consists);
+  records = records-clear;
+  lists = fontLines;
 }
 
 pub framed : D.Framed

@@ -21,7 +21,7 @@ use Rattle.rules.specs.Calls.{ReadCall}
 use Rattle.laws.proofs.Cases.{on, no, or-true, take-front, drop-front}
 use Rattle.laws_scan.proofs.Names.{AllRows, RowIn, RowsOf, read-stands}
 use Rattle.laws_answers.proofs.Theorems.{roomy}
-use Rattle.laws_answers.proofs.Numbers.{numbers}
+use Rattle.laws_answers.proofs.Numbers.{not-13, numbers}
 use Rattle.laws_offsets.specs.Offsets.{ReadOffset, OrRoom, Said}
 use Rattle.laws_offsets.proofs.Offsets.{offsets}
 use Rattle.laws_offsets.proofs.ByNumber.{by-number}
@@ -246,7 +246,7 @@ module _ (s list : List ℕ) (rs : List Record) (es : List Entry) (r : Reading) 
     where
       go : Kept (length rs) (length es) (read s list) (refuse 13 at)
           → (w : Widths) × (end : Env) × (gs : List Glyph) × (xs : List Item) × SoundList list w × Allowed s w end gs xs × ((length rs < length gs) ⊎ (length es < length xs))
-      go (inl e) = absurd (omega (arith, numbers .read-up-to-11 s list 13 at e))
+      go (inl e) = absurd (not-13 11 (omega arith) (numbers .read-numbers s list 13 at e))
       go (inr (e, z, gs, xs, d, f, less)) =
           let y : Stream s list d (glyphsIn gs) (itemsIn xs) = read-allowed s list gs xs d f in
           (y .widths, d, glyphsIn gs, itemsIn xs, y .list-sound, y .allowed, rw (length-map gs (λ (r : GlyphRow). r .glyph), length-map xs (λ (z : ItemRow). z .item)) less)

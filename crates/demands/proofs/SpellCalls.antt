@@ -28,7 +28,8 @@ use Rattle.laws_read.specs.Spots.{spotsOf}
 use Rattle.laws_answers.specs.Statements.{cmdsOf, houseText}
 use Rattle.laws_answers.specs.Statements as T
 use Rattle.laws_answers.proofs.Theorems.{again, fixedPoint, roomy, oneSpelling, limits-hold}
-use Rattle.laws_answers.proofs.Numbers.{numbers}
+use Rattle.laws_offsets.specs.Offsets.{InTableTo}
+use Rattle.laws_answers.proofs.Numbers.{not-13, numbers}
 use Rattle.laws_offsets.specs.Offsets.{ReadOffset, OrRoom, Said}
 use Rattle.laws_offsets.proofs.Offsets.{offsets}
 use Rattle.laws_offsets.proofs.ByNumber.{by-number}
@@ -292,7 +293,7 @@ only-no-room s list o o′ at c = with-stream (spelt s list refuted) (refused-gi
         is = oneSpelling .refused s list n k e
 
         go : Given (length o) (respell s list) (notSpelled 13 at) → ⊥
-        go (inl f) = let z : n ≡ 13 = ap numberIn (sym is ∙ f) in omega (arith, z, numbers .read-up-to-11 s list n k e)
+        go (inl f) = let z : n ≡ 13 = ap numberIn (sym is ∙ f) in not-13 11 (omega arith) (subst (InTableTo 11) z (numbers .read-numbers s list n k e))
         go (inr (f, g, t, i, j)) = subst IsText (sym i ∙ is) tt
 
     with-stream : Spelt s list → Given (length o) (respell s list) (notSpelled 13 at)

@@ -23,13 +23,15 @@ use Rattle.rules.specs.declared.Finding.the-variants as F
 use Rattle.rules.specs.declared.Judging.the-variants as J
 use Rattle.rules.specs.Bytes.{if_then_else_, bytes, origin}
 use Rattle.rules.specs.Act.{Axis, across, down, Act, glyph, index, to, by, page, font, size, device, resolution, init, stop, Cmd, just, word, pair}
-use Rattle.rules.specs.Scan.{got, command}
+use Rattle.rules.specs.Scan.{got, bad, command}
 use Rattle.rules.specs.Widths.{Widths, sound, widthList}
 use Rattle.rules.specs.State.{Env, Glyph, Item, went, start, steps, stopped}
 use Rattle.rules.specs.Record.{shown, lettersOf, colourOf}
 use Rattle.rules.specs.House.{signedDecimal, spelling, spellAll}
 use Rattle.rules.specs.Find.{Wanted, Key}
 use Rattle.rules.specs.Calls.{ReadCall, RespellCall, FindCall, JudgeCall}
+use Rattle.laws.specs.Barred.{Barred, NoBarred, SomeBarred}
+use Rattle.laws_arguments.specs.Names.{namedBytes, RefusesBarred}
 use Rattle.laws_read.specs.Outline.{signsOf, outline, keysFrom}
 use Rattle.laws_read.specs.Kept.{allKept}
 use Rattle.laws_read.specs.Spots.{spotsOf}
@@ -41,6 +43,7 @@ use Rattle.laws_motion.specs.Records.{Recorded, letters, isSome, Entered, Setti
 use Rattle.laws_motion.specs.Runs.{InEveryRun, InEveryList}
 use Rattle.laws_motion.specs.Needs.{Phases, Reasons}
 use Rattle.laws_offsets.specs.Frame.{NoFraming}
+use Rattle.laws_offsets.specs.Lists.{FontLines}
 use Rattle.laws_offsets.specs.Offsets.{ReadOffset, FindOffset, OrRoom, Said}
 use Rattle.laws_house.specs.Lines.{HouseText}
 use Rattle.laws_needed.specs.Statement.{OnlyWhereItDiffers}
@@ -62,8 +65,8 @@ abbrev pub NoNewline : List ℕ → Type 0
 NoNewline [] = Unit {0}
 NoNewline (b ∷ k) = (b ≡ 10 → ⊥) × NoNewline k
 
--- the bytes are these commands, each written as 01 has it and within its limits, with whitespace and comments before, between and
--- behind them: "`#`, where a command or a line break could stand, starts a comment up to the newline"
+-- the bytes are these commands, each written as 01 has it, within its limits and (2026-06) with no barred byte in a name, with whitespace
+-- and comments before, between and behind them: "`#`, where a command or a line break could stand, starts a comment up to the newline"
 pub data ConsistsOf : List ℕ → List Cmd → Type 0 where
   ended : ConsistsOf [] []
   white : (b : ℕ) (r : List ℕ) (cs : List Cmd) → White b → ConsistsOf r cs → ConsistsOf (b ∷ r) cs
@@ -153,8 +156,8 @@ pub record Answer : Type 0 where
 
 -- "The reader, rewriter and finder each accept, or refuse with a number and an offset from the table in 01." (An answer is the one or the
 -- other by its type.) `ReadOffset` and `FindOffset` are the table's rows: each number with its reason (of 3 to 10, that the command at fault
--- is refused so: see `OutsideAt`, `laws_arguments`, for 6 and `As01Gives` for 7 to 10) and what stands at its offset, where no earlier reason
--- is there; 13 at 0 for want of room; `Said` has the offsets by numbers (`laws_offsets`).
+-- is refused so: see `OutsideAt`, `laws_arguments`, for 6 and `As01Gives` for 7 to 10; of 16, `BarredIn`, `laws_arguments`) and what stands at
+-- its offset, where no earlier reason is there; 13 at 0 for want of room; `Said` has the offsets by numbers (`laws_offsets`).
 pub record Refuse : Type 0 where
   pub reader : (s list : List ℕ) (rs : List Record) (es : List Entry) (r : Reading) (rs′ : List Record) (es′ : List Entry) (number at : ℕ)
       → ReadCall s list rs es r rs′ es′ → r .answer ≡ R.Refused number at → OrRoom (ReadOffset s list) number at × Said s list [] number at
@@ -166,8 +169,9 @@ pub record Refuse : Type 0 where
 -- 01: "Each is given exactly for its reason." "Order: 1, 2, 12, then the stream from its start; at one command the smallest number. 13 comes
 -- last, when all else passed." The other way: where a row of the table is there, that number and offset are answered, whatever is lent. At
 -- one command (`Fault`, `laws_offsets`) that is one of 3 to 5 as it is scanned, which of them the rules say (`Scan.command`); 6 where it is
--- complete and an argument is outside its limit (`OutsideAt`, `laws_arguments`); else one of 7 to 10 as it is performed, the smallest that
--- has its reason (`As01Gives`); and 7 behind `x s`. For 13 see `NoRoom`.
+-- complete and an argument is outside its limit (`OutsideAt`, `laws_arguments`); 16 where all are in their limits and a byte of a name is barred
+-- (2026-06: "tested after 6 and before 7"; `BarredIn`, `laws_arguments`); else one of 7 to 10 as it is performed, the smallest that has its
+-- reason (`As01Gives`); and 7 behind `x s`. For 13 see `NoRoom`.
 pub record RefuseExactly : Type 0 where
   pub reader : (s list : List ℕ) (rs : List Record) (es : List Entry) (r : Reading) (rs′ : List Record) (es′ : List Entry) (number at : ℕ)
       → ReadCall s list rs es r rs′ es′ → ReadOffset s list number at → r .answer ≡ R.Refused number at
@@ -203,6 +207,36 @@ pub record AcceptExactly : Type 0 where
   pub only-where-allowed : (s list : List ℕ) (rs : List Record) (es : List Entry) (r : Reading) (rs′ : List Record) (es′ : List Entry)
       → ReadCall s list rs es r rs′ es′ → IsAccepted (r .answer)
       → (w : Widths) × (end : Env) × (gs : List Glyph) × (xs : List Item) × SoundList list w × Allowed s w end gs xs × (length gs ≤ length rs) × (length xs ≤ length es)
+
+-- 2026-06: "Refuse any byte 0 to 8, 11 to 31 or 127 in a name or a glyph, also in a `t` or `u` word, as 16. .. Demand 2 reads "exactly when"
+-- with this rule added." `Allowed` goes by commands that were scanned; one that is complete and in its limits is scanned where no byte of
+-- its names is barred, and is else refused as 16 (`RefusesBarred`, `namedBytes`: `laws_arguments`, Names.antt). So no name, glyph or word of an
+-- allowed stream has such a byte, and no record's name.
+abbrev pub EachClear : List Cmd → Type 0
+EachClear [] = Unit {0}
+EachClear (c ∷ cs) = NoBarred (namedBytes c []) × EachClear cs
+
+abbrev pub EachNameClear : List Glyph → Type 0
+EachNameClear [] = Unit {0}
+EachNameClear (g ∷ gs) = NoBarred (g .name) × EachNameClear gs
+
+-- Glyphs and words with a barred byte, by their bytes, each form as in `FiveForms` (below): all are 16, at the command.
+pub record BarredForms : Type 0 where
+  pub by-c : (k : List ℕ) (b : ℕ) (t : List ℕ) → Spacer k → Barred b → command 99 (k ++ b ∷ t) ≡ bad 16 0
+  pub by-C : (k n t : List ℕ) → Spacer k → NoWhite n → length n ≤ 64 → SomeBarred n → LineBreak t → command 67 (k ++ (n ++ t)) ≡ bad 16 0
+  pub by-t : (k bs t : List ℕ) → Spacer k → NoWhite bs → SomeBarred bs → LineBreak t → command 116 (k ++ (bs ++ t)) ≡ bad 16 0
+  pub by-u : (k : List ℕ) (n c : ℕ) (l bs t : List ℕ) → Spacer k → InLimit (shown n) → Spacer (c ∷ l) → NoWhite bs → SomeBarred bs → LineBreak t
+      → command 117 (k ++ (signedDecimal n ++ (c ∷ l ++ (bs ++ t)))) ≡ bad 16 0
+  pub by-digits : (d e : ℕ) (k l : List ℕ) (b : ℕ) (t : List ℕ) → d ≤ 9 → e ≤ 9 → Spacer k → Spacer l → Barred b → command (48 + d) (k ++ (48 + e) ∷ (l ++ b ∷ t)) ≡ bad 16 0
+
+pub record NamesClear : Type 0 where
+  pub rule : RefusesBarred
+  pub forms : BarredForms
+  pub allowed : (s : List ℕ) (w : Widths) (end : Env) (gs : List Glyph) (xs : List Item) (a : Allowed s w end gs xs) → EachClear (a .commands)
+  pub records : (s : List ℕ) (w : Widths) (end : Env) (gs : List Glyph) (xs : List Item) → Allowed s w end gs xs → EachNameClear gs
+  -- "In the three lists the old numbers 2, 12 and 14 are given for such a byte in a name": in a width list (`laws_offsets`, Lists.antt; the fonts
+  -- of a sound list: `InEveryList`); the query's are in `WellFormed`
+  pub lists : FontLines
 
 -- 01: "Prologue: `x T`, `x r`, `x i`, in that order, nothing before or between but whitespace and comments. `x s` ends the stream; behind it
 -- only whitespace and comments." The commands of every allowed stream are these, and none of the four is among cs (`NoFraming`:
@@ -447,18 +481,19 @@ pub data SetOtherwise : List Cmd → List Cmd → Type 0 where
   moved₂ : (c : Cmd) (cs cs₂ : List Cmd) → Motion c → SetOtherwise cs cs₂ → SetOtherwise cs (c ∷ cs₂)
 
 -- The five are written so: "`c` g", "`C` name", "`t` word", "`u` n word" and "two digits, glyph byte: .. spacers may stand within". A glyph
--- byte, and each byte of a name or word, is any but whitespace, `#` too; k and l are spacers; t is anything behind one glyph byte, and a
--- line break and what follows it behind a name or word; the number of `u` is one as the house writes it, and a spacer parts it from the
--- word. Each equation has the command, where its name begins, and its length.
+-- byte, and each byte of a name or word, is any but whitespace, `#` too, and (2026-06) but the barred ones, which are 16 (`BarredForms`); k
+-- and l are spacers; t is anything behind one glyph byte, and a line break and what follows it behind a name or word; the number of `u` is
+-- one as the house writes it, and a spacer parts it from the word. Each equation has the command, where its name begins, and its length.
 pub record FiveForms : Type 0 where
-  pub by-c : (k : List ℕ) (b : ℕ) (t : List ℕ) → Spacer k → (White b → ⊥) → command 99 (k ++ b ∷ t) ≡ got (just (glyph (b ∷ []))) (1 + length k) (2 + length k)
+  pub by-c : (k : List ℕ) (b : ℕ) (t : List ℕ) → Spacer k → (White b → ⊥) → (Barred b → ⊥)
+      → command 99 (k ++ b ∷ t) ≡ got (just (glyph (b ∷ []))) (1 + length k) (2 + length k)
   pub by-C : (k n t : List ℕ) → Spacer k → GoodName n → LineBreak t → command 67 (k ++ (n ++ t)) ≡ got (just (glyph n)) (1 + length k) (1 + length k + length n)
-  pub by-t : (k : List ℕ) (b : ℕ) (bs t : List ℕ) → Spacer k → NoWhite (b ∷ bs) → LineBreak t
+  pub by-t : (k : List ℕ) (b : ℕ) (bs t : List ℕ) → Spacer k → NoWhite (b ∷ bs) → NoBarred (b ∷ bs) → LineBreak t
       → command 116 (k ++ (b ∷ bs ++ t)) ≡ got (word origin (b ∷ bs)) (1 + length k) (1 + length k + length (b ∷ bs))
-  pub by-u : (k : List ℕ) (n c : ℕ) (l : List ℕ) (b : ℕ) (bs t : List ℕ) → Spacer k → InLimit (shown n) → Spacer (c ∷ l) → NoWhite (b ∷ bs) → LineBreak t
+  pub by-u : (k : List ℕ) (n c : ℕ) (l : List ℕ) (b : ℕ) (bs t : List ℕ) → Spacer k → InLimit (shown n) → Spacer (c ∷ l) → NoWhite (b ∷ bs) → NoBarred (b ∷ bs) → LineBreak t
       → command 117 (k ++ (signedDecimal n ++ (c ∷ l ++ (b ∷ bs ++ t))))
       ≡ got (word n (b ∷ bs)) (1 + length k + length (signedDecimal n) + length (c ∷ l)) (1 + length k + length (signedDecimal n) + length (c ∷ l) + length (b ∷ bs))
-  pub by-digits : (d e : ℕ) (k l : List ℕ) (b : ℕ) (t : List ℕ) → d ≤ 9 → e ≤ 9 → Spacer k → Spacer l → (White b → ⊥)
+  pub by-digits : (d e : ℕ) (k l : List ℕ) (b : ℕ) (t : List ℕ) → d ≤ 9 → e ≤ 9 → Spacer k → Spacer l → (White b → ⊥) → (Barred b → ⊥)
       → command (48 + d) (k ++ (48 + e) ∷ (l ++ b ∷ t)) ≡ got (pair (origin + (10 * d + e)) b) (2 + length k + length l) (3 + length k + length l)
 
 -- the same answer, and the same list where one is given

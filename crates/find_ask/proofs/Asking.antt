@@ -12,7 +12,7 @@ use lib.Seq.{getD-set-same, getD-set-other}
 use borrow.Author.Needs.{needs}
 use borrow.Author.Tests.{lt-ltb, le-ltb, ltb-true}
 use Rattle.rules.specs.Bytes.{bytes, same}
-use Rattle.rules.specs.Widths.{Line, linesFrom, behind, isString}
+use Rattle.rules.specs.Widths.{Line, linesFrom, behind, isListName}
 use Rattle.rules.specs.Find.{Gap, anyGap, noGap, someGap, Wanted, Expected, firstGlyph, gapGlyph, either, Query, illFormed, wellFormed, queryEnds, withWanted, gapOf, mayPart, mayAsk, queryLine, queryLines, query}
 use Rattle.laws.proofs.Cases.{if-both, if-on, and-left}
 use Rattle.laws_find.specs.Occurs.{wantedAt}
@@ -86,7 +86,7 @@ few-line : (n : ℕ) (x : Expected) (at : ℕ) (t : List ℕ) (go : ℕ → Expe
     → ((m : ℕ) (y : Expected) → m ≤ 64 → Few m (go m y)) → Few n (queryLine n x at t go o)
 few-line n x at t go (some name) h more =
     if-on (Few n) (mayAsk n name) (withWanted (gapOf x) name (go (n + 1) either)) (illFormed at)
-    (λ z. let l : n < 64 = ltb-true n 64 (and-left (ltb n 64) (isString name) z) in few-glyph n (gapOf x) name (go (n + 1) either) (more (n + 1) either (omega arith))) (λ z. tt)
+    (λ z. let l : n < 64 = ltb-true n 64 (and-left (ltb n 64) (isListName name) z) in few-glyph n (gapOf x) name (go (n + 1) either) (more (n + 1) either (omega arith))) (λ z. tt)
 few-line n x at t go none h more = if-both (Few n) (mayPart x && same t (bytes "gap=any")) (go n (gapGlyph at)) (illFormed at) (more n (gapGlyph at) h) tt
 
 few-lines : (ls : List Line) (n : ℕ) (x : Expected) → n ≤ 64 → Few n (queryLines n x ls)

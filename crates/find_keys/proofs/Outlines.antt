@@ -10,12 +10,12 @@ use lib.Seq.{drop-drop}
 use borrow.Author.Tests.{lt-ltb, le-ltb, ltb-true, ltb-false}
 use Rattle.rules.specs.Bytes.{if_then_else_, origin, is, isWhite, oneLine}
 use Rattle.rules.specs.Act.{glyph, index, to, by, page, font, size, colour, break, space, draw, device, resolution, init, file, mount, plain, raw, stop, line, arc, circle, solidCircle, ellipse, solidEllipse, polygon, solidPolygon, spline, thickness, grayFill, colourFill, Cmd, just, word, pair}
-use Rattle.rules.specs.Scan.{Scan, got, bad, command, Cmds, commands, bare}
+use Rattle.rules.specs.Scan.{Scan, nameIn, got, bad, command, Cmds, commands, bare}
 use Rattle.rules.specs.Find.{Key as RulesKey}
 use Rattle.laws.proofs.Cases.{on}
 use Rattle.laws.proofs.Good.{GoodCmd}
 use Rattle.laws_scan.proofs.Fair.{command-good}
-use Rattle.laws_scan.proofs.Bounds.{textOf, GotIn, command-in}
+use Rattle.laws_scan.proofs.Bounds.{GotIn, command-in}
 use Rattle.laws_scan.proofs.Walk.{from, cons-at, from-end, from-white, from-comment, from-bad, from-got}
 use Rattle.laws_read.specs.Outline.{Sign, namedSign, gapSign, byteSign, signsOf, outline, keysFrom}
 use Rattle.scan_command.specs.View.{cmdOf, commandOf, commandAt}
@@ -96,7 +96,7 @@ module _ (s : List ℕ) where
           inside : GotIn (getD s (o .at) 0 ∷ drop (o .at + 1) s) c a j
           inside = rw q at (command-in (getD s (o .at) 0) (drop (o .at + 1) s))
 
-          stands : take (length (textOf c)) (drop (o .at + a) s) ≡ textOf c
+          stands : take (length (nameIn c)) (drop (o .at + a) s) ≡ nameIn c
           stands = rw (← drop-drop a (o .at) s, cons-at s (o .at) h) (inside .stands)
 
           rest-is : restAt (o .at) ≡ signsOf c ++ restAt (o .at + j)

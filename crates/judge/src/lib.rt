@@ -13,7 +13,7 @@ fn judged(none: &mut [u8], ws: &mut [u32], s: &[u8], list: &[u8]) -> Judging
     judge_answer::answer(w)
 }
 
-// The numbers of records, entries and pages, and the spelling's length; or a refusal, 1 to 11.
+// The numbers of records, entries and pages, and the spelling's length; or a refusal, 1 to 11 or 16.
 pub fn judge(s: &[u8], list: &[u8]) -> Judging
     ensures { λ r. ⌜ JudgeCall (now (s .entry)) (now (list .entry)) r ⌝ }
 {

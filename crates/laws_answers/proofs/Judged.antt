@@ -4,7 +4,7 @@ use native.Mathlib.Omega.{arith}
 use mathlib.Core.Bool.{Bool, true, false}
 use mathlib.Core.List.{List, [], _∷_, map}
 use mathlib.Core.Logic.{inl, inr}
-use mathlib.Core.Path.{_≡_, refl, sym, ap, _∙_}
+use mathlib.Core.Path.{_≡_, refl, sym, ap, subst, _∙_}
 use lib.ListN.{length}
 use borrow.Author.Tests.{ltb-false, le-ltb}
 use Rattle.rules.specs.declared.Judging.{Judging}
@@ -16,9 +16,10 @@ use Rattle.rules.specs.Find.{Wanted, hitsFrom, wellFormed, query}
 use Rattle.rules.specs.Answers.{streamMost, isOver, read, isAccepted, readInto, notSpelled, spelled, spellWith, respell, respellInto, Found, notFound, found, keyOf, find, foundIn, findInto, lengthOf, judgingOf, judge}
 use Rattle.laws.proofs.Cases.{on, no}
 use Rattle.laws_find.specs.Occurs.{Elem, Above}
+use Rattle.laws_offsets.specs.Offsets.{InTableTo}
 use Rattle.laws_answers.specs.Statements.{Accepted, rowsIn, Exact, Judged}
 use Rattle.laws_answers.proofs.Theorems.{exactness, answered, queryText, roomy}
-use Rattle.laws_answers.proofs.Numbers.{numbers}
+use Rattle.laws_answers.proofs.Numbers.{not-13, numbers}
 
 -- ---- the judge's answer taken apart
 
@@ -163,7 +164,7 @@ module _ (s list : List ℕ) where
               rw (le-ltb records (length rs) (omega arith), le-ltb hits (length is) (omega arith))
 
       finder-never-13 : (n at : ℕ) → findInto records hits s list q ≡ notFound n at → n ≡ 13 → ⊥
-      finder-never-13 n at e k = let l = numbers .find-up-to-12 s list q n at (sym finder ∙ e) in let m : n ≤ 12 = l .1 in omega arith
+      finder-never-13 n at e k = not-13 12 (omega arith) (subst (InTableTo 12) k (numbers .find-numbers s list q n at (sym finder ∙ e)))
 
       finder-found : (qs : List Wanted) → query q ≡ wellFormed qs → (rs : List GlyphRow) × (is : List ℕ) × (findInto records hits s list q ≡ found rs is) × (length rs ≡ r)
       finder-found qs e = (
@@ -177,7 +178,7 @@ pub judged : Judged
 judged = record {
   refused = refused;
   refuses = refuses;
-  numbers = λ s list n at h. numbers .read-up-to-11 s list n at (refused s list n at h);
+  numbers = λ s list n at h. numbers .read-numbers s list n at (refused s list n at h);
   accepted = accepted;
   reader = λ s list r x p t records entries h a b. reader s list r x p t h records entries a b;
   rewriter = λ s list r x p t room h a b. rewriter s list r x p t h room a b;

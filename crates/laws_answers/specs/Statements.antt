@@ -20,6 +20,7 @@ use Rattle.laws_read.specs.Kept.{unmotioned, allKept}
 use Rattle.laws_read.specs.Spots.{spotsOf}
 use Rattle.laws_find.specs.Occurs.{keyAt, QueryShape, OccursAt, Elem, Rising}
 use Rattle.laws_find.specs.Written.{written, GoodQuery}
+use Rattle.laws_offsets.specs.Offsets.{InTableTo}
 
 -- "A stream is accepted where, with its width list, no reason but 13 is against it"
 abbrev pub Accepted : List ℕ → List ℕ → Type 0
@@ -210,7 +211,7 @@ pub record Judged : Type 0 where
   pub refused : (s list : List ℕ) (n at : ℕ) → judge s list ≡ J.Refused n at → read s list ≡ refuse n at
   pub refuses : (s list : List ℕ) (n at : ℕ) → read s list ≡ refuse n at → judge s list ≡ J.Refused n at
   -- never with 12 or 13
-  pub numbers : (s list : List ℕ) (n at : ℕ) → judge s list ≡ J.Refused n at → (1 ≤ n) × (n ≤ 11)
+  pub numbers : (s list : List ℕ) (n at : ℕ) → judge s list ≡ J.Refused n at → InTableTo 11 n
   -- what it accepts, the reader accepts, with just so many records, entries and pages
   pub accepted : (s list : List ℕ) (r x p t : ℕ) → judge s list ≡ J.Accepted r x p t
       → (rs : List GlyphRow) × (xs : List ItemRow) × (e : Env) × (read s list ≡ answer rs xs e) × (length rs ≡ r) × (length xs ≡ x) × (e .ordinal ≡ p)
@@ -244,11 +245,11 @@ pub record Limits : Type 0 where
   pub text : (t : List ℕ) → length t ≤ 4_096 → limits (raw t) ≡ true ∷ []
   pub long-text : (t : List ℕ) → 4_096 < length t → limits (raw t) ≡ false ∷ []
 
--- ---- "accept, or refuse with a number .. from the table in 01": the reader with 1 to 11, the finder with 12 too, "13 comes last"
+-- ---- "accept, or refuse with a number .. from the table in 01": the reader with 1 to 11 and 16 (2026-06), the finder with 12 too, "13 comes last"
 
 pub record Numbers : Type 0 where
-  pub read-up-to-11 : (s list : List ℕ) (n at : ℕ) → read s list ≡ refuse n at → (1 ≤ n) × (n ≤ 11)
-  pub find-up-to-12 : (s list q : List ℕ) (n at : ℕ) → find s list q ≡ notFound n at → (1 ≤ n) × (n ≤ 12)
-  pub reader : (records entries : ℕ) (s list : List ℕ) (n at : ℕ) → readInto records entries s list ≡ refuse n at → (1 ≤ n) × (n ≤ 13)
-  pub rewriter : (room : ℕ) (s list : List ℕ) (n at : ℕ) → respellInto room s list ≡ notSpelled n at → (1 ≤ n) × (n ≤ 13)
-  pub finder : (records hits : ℕ) (s list q : List ℕ) (n at : ℕ) → findInto records hits s list q ≡ notFound n at → (1 ≤ n) × (n ≤ 13)
+  pub read-numbers : (s list : List ℕ) (n at : ℕ) → read s list ≡ refuse n at → InTableTo 11 n
+  pub find-numbers : (s list q : List ℕ) (n at : ℕ) → find s list q ≡ notFound n at → InTableTo 12 n
+  pub reader : (records entries : ℕ) (s list : List ℕ) (n at : ℕ) → readInto records entries s list ≡ refuse n at → InTableTo 13 n
+  pub rewriter : (room : ℕ) (s list : List ℕ) (n at : ℕ) → respellInto room s list ≡ notSpelled n at → InTableTo 13 n
+  pub finder : (records hits : ℕ) (s list q : List ℕ) (n at : ℕ) → findInto records hits s list q ≡ notFound n at → InTableTo 13 n

@@ -12,14 +12,14 @@ use Rattle.rules.specs.Act.{Cmd}
 use Rattle.rules.specs.Letters.{Draft, fault, draft}
 use Rattle.rules.specs.Scan.{letter, cmdLimits, isSmall, outside, judgedBy, judged, command, Scan, got, bad}
 use Rattle.laws.proofs.Cases.{no}
+use Rattle.laws.proofs.Clear.{cleared-both}
 use Rattle.laws_scan.specs.Texts.{Spacer}
 use Rattle.laws_scan.proofs.Bounds.{bad-place}
-use Rattle.laws_scan.proofs.LineBreaks.{isGot}
 use Rattle.laws_arguments.specs.Arguments.{Argument, ArgumentWithin, AllWithin, argumentsOf, ArgumentIs, Laid, OutsideAt, PointsAtArgument}
 use Rattle.laws_arguments.proofs.Limits.{Agree, agree, isSome, none-found, all-in}
 use Rattle.laws_arguments.proofs.Places.{Begins, LaidAt, nothing-laid, one-more-laid}
 use Rattle.laws_arguments.proofs.Counts.{command-count}
-use Rattle.laws_arguments.proofs.Letters.{LaidOut, DraftLaid, letter-laid}
+use Rattle.laws_arguments.proofs.Letters.{LaidOut, Unlaid, unlaid-within, DraftLaid, letter-laid}
 use Rattle.laws_arguments.proofs.OnePlace.{all-behind, all-written, one-place-at}
 
 abbrev numberIn : Scan → ℕ
@@ -152,23 +152,16 @@ points-at b r k (draft c ds ks a l t) e h j = go (outside ps ks) refl j
           place = w .place;
         }
 
-    at-fault : outside ps ks ≡ some k → AllWithin (argumentsOf c ds) ⊎ LaidOut b r (argumentsOf c ds) ks → OutsideAt b r k
-    at-fault f (inl all) = no (ap isSome (sym (none-found ps (argumentsOf c ds) ks (agree c ds) all) ∙ f))
+    at-fault : outside ps ks ≡ some k → Unlaid b (argumentsOf c ds) ⊎ LaidOut b r (argumentsOf c ds) ks → OutsideAt b r k
+    at-fault f (inl all) = no (ap isSome (sym (none-found ps (argumentsOf c ds) ks (agree c ds) (unlaid-within b (argumentsOf c ds) all)) ∙ f))
     at-fault f (inr y) =
         let z : Skipped ps (y .written) (y .stand-ins ++ y .places) (y .places) = skipped ps (y .unwritten) (y .written) (y .stand-ins) (y .places) (y .even) (y .in-limit) (subst (Agree ps) (y .order) (agree c ds)) in
         let found : outside (z .tests) (y .places) ≡ some k = sym (z .same) ∙ ap (outside ps) (sym (y .in-order)) ∙ f in
         pointed y (first (z .tests) (y .written) (y .places) (length (y .letters)) (y .arguments) (y .end) (y .rest) k (z .agrees) (y .laid) found)
 
     go : (o : Option ℕ) → outside ps ks ≡ o → judgedBy c a l o ≡ bad 6 k → OutsideAt b r k
-    go none f q = no (sym (ap isGot q))
+    go none f q = absurd (cleared-both (λ x. numberIn x ≡ 6 → ⊥) c a l (λ z. omega (arith, z)) (λ z. omega (arith, z)) (ap numberIn q))
     go (some i) f q = at-fault (f ∙ ap some (ap placeIn q)) h
-
-only-in : (c : Cmd) (ds : List Num) (ks : List ℕ) (a l : ℕ) (t : List ℕ) → judged (draft c ds ks a l t) ≡ got c a l → AllWithin (argumentsOf c ds)
-only-in c ds ks a l t j = go (outside (cmdLimits c ++ map isSmall ds) ks) refl j
-  where
-    go : (o : Option ℕ) → outside (cmdLimits c ++ map isSmall ds) ks ≡ o → judgedBy c a l o ≡ got c a l → AllWithin (argumentsOf c ds)
-    go none f q = all-in (cmdLimits c ++ map isSmall ds) (argumentsOf c ds) ks (agree c ds) f
-    go (some i) f q = no (ap isGot q)
 
 given-at : (b : ℕ) (r : List ℕ) (k : ℕ) → OutsideAt b r k → command b r ≡ bad 6 k
 given-at b r k o = go (outside (cmdLimits c ++ map isSmall ds) (o .places)) refl
@@ -192,8 +185,5 @@ pointsAtArgument = record {
   points = λ b r k j. points-at b r k (letter b r) refl (letter-laid b r) j;
   given = given-at;
   others = bad-place;
-  accepted = λ b r c ds ks a l t e h.
-      ap judged e ∙ ap (judgedBy c a l) (none-found (cmdLimits c ++ map isSmall ds) (argumentsOf c ds) ks (agree c ds) h);
-  only = λ b r c ds ks a l t e j. only-in c ds ks a l t (sym (ap judged e) ∙ j);
   count = command-count;
 }

@@ -45,10 +45,18 @@ pub record LaidOut (b : ℕ) (r : List ℕ) (all : List Argument) (ks : List ℕ
   pub rest : List ℕ
   pub laid : LaidAt (length letters) arguments written places end rest
 
--- no refusal of this layer is 6; `c`, `w` and two digits have nothing outside a limit
+-- there is no argument, or it is the one byte of `c`: nothing is outside a limit
+abbrev pub Unlaid : ℕ → List Argument → Type 0
+Unlaid b xs = (xs ≡ []) ⊎ ((b ≡ 99) × AllWithin xs)
+
+pub unlaid-within : (b : ℕ) (xs : List Argument) → Unlaid b xs → AllWithin xs
+unlaid-within b xs (inl e) = rw e tt
+unlaid-within b xs (inr h) = h .1
+
+-- no refusal of this layer is 6
 abbrev pub DraftLaid : ℕ → List ℕ → Draft → Type 0
 DraftLaid b r (fault n) = NotSix n
-DraftLaid b r (draft c ds ks a l t) = AllWithin (argumentsOf c ds) ⊎ LaidOut b r (argumentsOf c ds) ks
+DraftLaid b r (draft c ds ks a l t) = Unlaid b (argumentsOf c ds) ⊎ LaidOut b r (argumentsOf c ds) ks
 
 closed-laid : (b : ℕ) (r : List ℕ) (x : Draft) → DraftLaid b r x → DraftLaid b r (closed x)
 closed-laid b r (fault n) h = h
@@ -190,7 +198,7 @@ module _ (r letters arguments : List ℕ) (bytes : 120 ∷ r ≡ letters ++ argu
   plain-laid c = word-laid-out (plainly c k arguments) (all-from k arguments (plain c) (integers (plainCount c) k arguments) (like-plain c) (integers-laid (plainCount c) k arguments))
 
   alone-laid : (a : Act) → actArguments a ≡ [] → DraftLaid 120 r (closed (alone a k arguments))
-  alone-laid a e = closed-laid 120 r (alone a k arguments) (inl (rw e tt))
+  alone-laid a e = closed-laid 120 r (alone a k arguments) (inl (inl (rw e)))
 
   text-laid : DraftLaid 120 r (rawly (k + spacer arguments) (unspaced arguments))
   text-laid =
@@ -265,14 +273,14 @@ word-laid r = go (unspaced r) refl
 -- ---- all
 
 -- a name of one byte is within its limit
-byte-laid : (b k : ℕ) (r t : List ℕ) → DraftLaid b r (oneByte (λ x. just (glyph (x ∷ []))) k t)
-byte-laid b k r [] = four
-byte-laid b k r (c ∷ t) = if-both (DraftLaid b r) (isWhite c) (fault 4) _ four (inl (omega arith, tt))
+byte-laid : (b k : ℕ) (r t : List ℕ) → b ≡ 99 → DraftLaid b r (oneByte (λ x. just (glyph (x ∷ []))) k t)
+byte-laid b k r [] e = four
+byte-laid b k r (c ∷ t) e = if-both (DraftLaid b r) (isWhite c) (fault 4) _ four (inl (inr (e, (omega arith, tt))))
 
 -- a pair has no argument with a limit
 pair-laid : (b n k : ℕ) (r t : List ℕ) → DraftLaid b r (oneByte (pair n) k t)
 pair-laid b n k r [] = four
-pair-laid b n k r (c ∷ t) = if-both (DraftLaid b r) (isWhite c) (fault 4) _ four (inl tt)
+pair-laid b n k r (c ∷ t) = if-both (DraftLaid b r) (isWhite c) (fault 4) _ four (inl (inl refl))
 
 digit-laid : (b k : ℕ) (r t : List ℕ) → DraftLaid b r (secondDigit b k t)
 digit-laid b k r [] = four
@@ -299,8 +307,8 @@ letter-laid b r =
     = λ n f s w g e. all n (withOne f (integers 1 1 r)) s w (one-from 1 r f (integers 1 1 r) g (counted 1 1 r) (integers-laid 1 1 r)) e in
     let by-t : Draft = named (word origin) (1 ∷ []) 1 r in
     let by-u : Draft = numberNamed word (integers 1 1 r) in
-    if-both P (is "c" b) _ _ (byte-laid b (1 + spacer r) r (unspaced r))
-    (if-on P (is "C" b) _ _ (all 67 (named (λ n. just (glyph n)) [] 1 r) (refl, refl, refl) (λ xs. refl)
+    if-on P (is "c" b) _ _ (λ e. byte-laid b (1 + spacer r) r (unspaced r) (eqb-true b 99 e)) (λ z.
+    if-on P (is "C" b) _ _ (all 67 (named (λ n. just (glyph n)) [] 1 r) (refl, refl, refl) (λ xs. refl)
     (named-from 1 r (λ n. just (glyph n)) a-name [] [] [] [] 1 r (λ n. refl) (λ n w v h. h) (λ n h. h) tt (refl, refl))) (λ z.
     if-on P (is "N" b) _ _ (one 78 index (refl, refl, refl) (λ xs. refl) (λ m. (refl, tt))) (λ z.
     if-on P (is "t" b) _ _ (letter-laid-out 116 b r (anyNumber origin ∷ []) (1 ∷ []) (withDummy by-t) (refl, refl, refl) refl ((omega arith, omega arith), tt) (λ xs. refl)
@@ -318,7 +326,7 @@ letter-laid b r =
     if-on P (is "m" b) _ _ (λ e. rw (eqb-true b 109 e) (colour-laid r)) (λ z.
     if-on P (is "n" b) _ _ (all 110 (ignoring (draft (just break) [] [] 0 1 r) (integers 2 1 r)) (refl, refl, refl) (λ xs. refl)
     (ignoring-from 1 r [] [] (just break) [] [] 0 1 r (integers 2 1 r) (nothing-from 1 r (just break) refl) (integers-laid 2 1 r))) (λ z.
-    if-both P (is "w" b) _ _ (inl tt)
+    if-both P (is "w" b) _ _ (inl (inl refl))
     (if-on P (is "D" b) _ _ (λ e. rw (eqb-true b 68 e) (closed-laid 68 r (drawing (1 + spacer r) (unspaced r)) (drawing-laid r))) (λ z.
     if-on P (is "x" b) _ _ (λ e. rw (eqb-true b 120 e) (word-laid r)) (λ z.
     if-both P (isDigit b) _ _ (digit-laid b (1 + spacer r) r (unspaced r)) three)))))))))))))))))

@@ -4,4 +4,5 @@ pub mod Stands
 pub mod Counts
 pub mod Letters
 pub mod OnePlace
+pub mod Names
 pub mod Arguments

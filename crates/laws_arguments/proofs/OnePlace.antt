@@ -16,7 +16,7 @@ use Rattle.laws_scan.proofs.Written.{integers-as-written}
 use Rattle.laws_scan.proofs.LineBreaks.{are-spaces, are-not-white, white-stops}
 use Rattle.laws_arguments.specs.Arguments.{Argument, a-number, a-dummy, one-too-many, a-name, a-word, a-text, ArgumentWithin, AllWithin, argumentsOf, writtenBy, NoSpace, CommandLetters, one-letter, of-m, of-D, of-DF, of-x, NumberIs, StringIs, ArgumentIs, Laid, none, next, OutsideAt}
 use Rattle.laws_arguments.proofs.Stands.{NoText}
-use Rattle.laws_arguments.proofs.Letters.{LaidOut, DraftLaid, letter-laid}
+use Rattle.laws_arguments.proofs.Letters.{LaidOut, Unlaid, unlaid-within, DraftLaid, letter-laid}
 
 -- ---- an argument
 
@@ -176,8 +176,8 @@ is-there b r k x = go (subst (DraftLaid b r) (x .complete) (letter-laid b r))
     all : List Argument
     all = argumentsOf (x .cmd) (x .dummies)
 
-    go : AllWithin all ⊎ LaidOut b r all (x .places) → k ≡ placeIn b r (x .before)
-    go (inl h) = absurd (x .outside (all-behind (x .before) (x .argument) (x .after) (subst AllWithin (x .order) (all-written b all h))))
+    go : Unlaid b all ⊎ LaidOut b r all (x .places) → k ≡ placeIn b r (x .before)
+    go (inl h) = absurd (x .outside (all-behind (x .before) (x .argument) (x .after) (subst AllWithin (x .order) (all-written b all (unlaid-within b all h)))))
     go (inr h) =
         let texts : NoText (x .before) = no-text-before (x .before) (x .argument) (x .after) (subst (λ xs. NoText xs ⊎ (length xs ≡ 1)) (sym (h .by-letter) ∙ x .order) (h .texts)) in
         let there : k ≡ placeBehind (length (x .letters)) (x .arguments) (x .before) = x .place

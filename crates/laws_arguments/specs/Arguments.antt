@@ -8,7 +8,7 @@ use lib.ListN.{length, take, drop}
 use Rattle.rules.specs.Bytes.{if_then_else_, is, Num, moved}
 use Rattle.rules.specs.Act.{Scheme, cmy, default, gray, cmyk, rgb, Shape, line, arc, circle, solidCircle, ellipse, solidEllipse, polygon, solidPolygon, spline, thickness, grayFill, colourFill, Plain, pause, trailer, height, slant, underline, Act, glyph, index, to, by, page, font, size, colour, break, space, draw, device, resolution, init, file, mount, plain, raw, stop, Cmd, just, word, pair}
 use Rattle.rules.specs.Letters.{draft}
-use Rattle.rules.specs.Scan.{got, bad, letter, command}
+use Rattle.rules.specs.Scan.{bad, letter, command}
 use Rattle.laws_scan.specs.Texts.{Spacer, NoWhite, WhiteOrEnd, Written, NoDigit}
 
 -- ---- the arguments of a command, and their limits
@@ -289,12 +289,7 @@ pub record PointsAtArgument : Type 0 where
   pub points : (b : ℕ) (r : List ℕ) (k : ℕ) → command b r ≡ bad 6 k → OutsideAt b r k
   -- "Each is given exactly for its reason": the other way, so no second place has what is said of it
   pub given : (b : ℕ) (r : List ℕ) (k : ℕ) → OutsideAt b r k → command b r ≡ bad 6 k
-  -- "Other offsets in 01 stay": 3, 4 and 5 are about the command
+  -- "Other offsets in 01 stay": 3, 4 and 5 are about the command, and so is 16 (`Names`)
   pub others : (b : ℕ) (r : List ℕ) (n k : ℕ) → command b r ≡ bad n k → (n ≡ 6 → ⊥) → k ≡ 0
-  -- a command that is complete, its limits aside, is accepted where all arguments are in their limits, and nowhere else
-  pub accepted : (b : ℕ) (r : List ℕ) (c : Cmd) (ds : List Num) (ks : List ℕ) (a l : ℕ) (t : List ℕ)
-      → letter b r ≡ draft c ds ks a l t → AllWithin (argumentsOf c ds) → command b r ≡ got c a l
-  pub only : (b : ℕ) (r : List ℕ) (c : Cmd) (ds : List Num) (ks : List ℕ) (a l : ℕ) (t : List ℕ)
-      → letter b r ≡ draft c ds ks a l t → command b r ≡ got c a l → AllWithin (argumentsOf c ds)
-  -- how many arguments such a command has
+  -- how many arguments a command that is complete has
   pub count : (b : ℕ) (r : List ℕ) (c : Cmd) (ds : List Num) (ks : List ℕ) (a l : ℕ) (t : List ℕ) → letter b r ≡ draft c ds ks a l t → CmdCount c ds

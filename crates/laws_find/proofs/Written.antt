@@ -10,10 +10,11 @@ use mathlib.Core.Path.{_≡_, refl, sym, ap, _∙_}
 use lib.Dec.{ltb, leb, eqb}
 use lib.ListN.{length, length-append}
 use borrow.Author.Tests.{eqb-true, eq-eqb, ltb-true, lt-ltb, leb-true, le-leb}
-use Rattle.rules.specs.Bytes.{bytes, is, isSpace, isWhite, isNotWhite, span, same}
-use Rattle.rules.specs.Widths.{Line, withByte, linesFrom, behind, isString}
+use Rattle.rules.specs.Bytes.{bytes, is, isSpace, isWhite, isNotWhite, isClear, span, same}
+use Rattle.rules.specs.Widths.{Line, withByte, linesFrom, behind, isListName}
 use Rattle.rules.specs.Find.{Gap, anyGap, noGap, someGap, Wanted, Key, Expected, firstGlyph, gapGlyph, either, Query, illFormed, wellFormed, queryEnds, withWanted, gapOf, mayAsk, queryLine, queryLines, query}
 use Rattle.laws.proofs.Cases.{on, no, and-left, and-right}
+use Rattle.laws.proofs.Clear.{clear-none, none-clear}
 use Rattle.laws_find.specs.Occurs.{AllAsked, IsAsked, keyAt, wantedAt, OccursAt}
 use Rattle.laws_find.specs.Written.{glyphLine, gapLine, gapBefore, written, White, NoWhite, GoodName, GoodNames, GoodQuery}
 use Rattle.laws_find.proofs.Exact.{same-eq}
@@ -50,19 +51,22 @@ unfolding span
 no-white-span [] h = refl
 no-white-span (b ∷ n) h = rw (not-white-false b (h .0)) (ap suc (no-white-span n (h .1)))
 
-string-good : (n : List ℕ) → isString n ≡ true → GoodName n
-string-good n h =
-    let k : (leb (length n) 64 && eqb (span isNotWhite n) (length n)) ≡ true = and-right (ltb 0 (length n)) (leb (length n) 64 && eqb (span isNotWhite n) (length n)) h in
+pub listed-good : (n : List ℕ) → isListName n ≡ true → GoodName n
+listed-good n h =
+    let whole : Bool = eqb (span isNotWhite n) (length n) in
+    let k : (leb (length n) 64 && (whole && isClear n)) ≡ true = and-right (ltb 0 (length n)) (leb (length n) 64 && (whole && isClear n)) h in
+    let j : (whole && isClear n) ≡ true = and-right (leb (length n) 64) (whole && isClear n) k in
     record {
-      some = omega (arith, ltb-true 0 (length n) (and-left (ltb 0 (length n)) (leb (length n) 64 && eqb (span isNotWhite n) (length n)) h));
-      few = leb-true (length n) 64 (and-left (leb (length n) 64) (eqb (span isNotWhite n) (length n)) k);
-      no-white = span-no-white n (eqb-true (span isNotWhite n) (length n) (and-right (leb (length n) 64) (eqb (span isNotWhite n) (length n)) k));
+      some = omega (arith, ltb-true 0 (length n) (and-left (ltb 0 (length n)) (leb (length n) 64 && (whole && isClear n)) h));
+      few = leb-true (length n) 64 (and-left (leb (length n) 64) (whole && isClear n) k);
+      no-white = span-no-white n (eqb-true (span isNotWhite n) (length n) (and-left whole (isClear n) j));
+      no-barred = clear-none n (and-right whole (isClear n) j);
     }
 
-good-string : (n : List ℕ) → GoodName n → isString n ≡ true
-good-string n h =
+pub good-listed : (n : List ℕ) → GoodName n → isListName n ≡ true
+good-listed n h =
     let k : 1 ≤ length n = h .some in
-    rw (lt-ltb 0 (length n) (omega arith), le-leb (length n) 64 (h .few), eq-eqb (span isNotWhite n) (length n) (no-white-span n (h .no-white)))
+    rw (lt-ltb 0 (length n) (omega arith), le-leb (length n) 64 (h .few), eq-eqb (span isNotWhite n) (length n) (no-white-span n (h .no-white)), none-clear n (h .no-barred))
 
 -- ---- lines
 
@@ -75,7 +79,7 @@ or-right : (a b : Bool) → (a || b) ≡ false → b ≡ false
 or-right true b h = no (sym h)
 or-right false b h = h
 
-no-white-line : (n : List ℕ) → NoWhite n → OneLine n
+pub no-white-line : (n : List ℕ) → NoWhite n → OneLine n
 no-white-line [] h = tt
 no-white-line (b ∷ n) h = (or-right (isSpace b) (is "\n" b) (not-white-false b (h .0)), no-white-line n (h .1))
 
@@ -121,7 +125,7 @@ module _ (n at : ℕ) (r : List ℕ) where
         glyph-text name r,
         line-front (bytes "glyph=" ++ name) at r (refl, (refl, (refl, (refl, (refl, (refl, no-white-line name (h .no-white))))))),
         lt-ltb n 64 k,
-        good-string name h,
+        good-listed name h,
       )
 
   gap-read : queryLines n either (linesFrom at (gapLine ++ r)) ≡ queryLines n (gapGlyph at) (linesFrom (at + length (bytes "gap=any") + 1) r)
@@ -204,8 +208,8 @@ claim-line : (n : ℕ) (x : Expected) (at : ℕ) (t rest : List ℕ) (go : ℕ �
 claim-line n x at t rest go (some name) e l more =
     on (mayAsk n name)
     (λ h. rw (h, behind-front (bytes "glyph=") t name e)
-    (claim-glyph n x name rest (go (n + 1) either) (string-good name (and-right (ltb n 64) (isString name) h))
-    (more (n + 1) either (omega (arith, ltb-true n 64 (and-left (ltb n 64) (isString name) h))))))
+    (claim-glyph n x name rest (go (n + 1) either) (listed-good name (and-right (ltb n 64) (isListName name) h))
+    (more (n + 1) either (omega (arith, ltb-true n 64 (and-left (ltb n 64) (isListName name) h))))))
     (λ h. rw h tt)
 claim-line n firstGlyph at t rest go none e l more = tt
 claim-line n (gapGlyph p) at t rest go none e l more = tt

@@ -6,6 +6,7 @@ use mathlib.Core.Path.{_≡_}
 use lib.ListN.{length}
 use Rattle.rules.specs.Bytes.{bytes}
 use Rattle.rules.specs.Find.{Gap, anyGap, noGap, someGap, Wanted}
+use Rattle.laws.specs.Barred.{NoBarred}
 use Rattle.laws_find.specs.Occurs.{QueryShape}
 
 -- "lines `glyph=NAME` and `gap=any`, each ended by a newline"
@@ -30,7 +31,7 @@ written (q ∷ qs) = gapBefore (q .gap) ++ (glyphLine (q .name) ++ written qs)
 abbrev pub White : ℕ → Type 0
 White b = (b ≡ 32) ⊎ ((b ≡ 9) ⊎ (b ≡ 10))
 
--- "NAME is a string of 1 to 64 bytes"; "A string is one or more non-whitespace bytes"
+-- "NAME is a string of 1 to 64 bytes"; "A string is one or more non-whitespace bytes"; by 2026-06 none of them is barred
 abbrev pub NoWhite : List ℕ → Type 0
 NoWhite [] = Unit {0}
 NoWhite (b ∷ n) = (White b → ⊥) × NoWhite n
@@ -39,6 +40,7 @@ pub record GoodName (n : List ℕ) : Type 0 where
   pub some : 1 ≤ length n
   pub few : length n ≤ 64
   pub no-white : NoWhite n
+  pub no-barred : NoBarred n
 
 abbrev pub GoodNames : List Wanted → Type 0
 GoodNames [] = Unit {0}

@@ -5,7 +5,7 @@ use mathlib.Core.Bool.{Bool, true, _&&_}
 use mathlib.Core.List.{List, [], _∷_, _++_, map}
 use mathlib.Core.Path.{_≡_, refl, ap, subst}
 use lib.ListN.{length}
-use Rattle.rules.specs.Bytes.{is, isSpace, isNotWhite, isNotNewline, near}
+use Rattle.rules.specs.Bytes.{is, isSpace, isNotWhite, isNotNewline, isClear, near}
 use Rattle.rules.specs.Act.{Axis, across, down, Scheme, cmy, default, gray, cmyk, rgb, Shape, line, arc, circle, solidCircle, ellipse, solidEllipse, polygon, solidPolygon, spline, thickness, grayFill, colourFill, Plain, pause, trailer, height, slant, underline, Act, glyph, index, to, by, page, font, size, colour, break, space, draw, device, resolution, init, file, mount, plain, raw, stop}
 use Rattle.rules.specs.Drawing.{isPaired}
 use Rattle.rules.specs.Scan.{upTo, isPosition, isName, commands, bare}
@@ -15,6 +15,7 @@ use Rattle.rules.specs.Record.{Answer, refuse, answer}
 use Rattle.rules.specs.House.{manner, played, spelling, args, plusLines, rawArg, spellAct, spellAll}
 use Rattle.rules.specs.Answers.{streamMost, isOver, Spelling, notSpelled, spelled, spellIf, spellWith, respell, read}
 use Rattle.laws.proofs.Cases.{All, Stops, on, no, if-both, and-left, and-right}
+use Rattle.laws.proofs.Clear.{clear-none}
 use Rattle.laws.proofs.Good.{allTrue, Good, AllActs}
 use Rattle.laws.proofs.Good as G
 use Rattle.laws.proofs.Limits.{AllNear, upTo-near, upTo-few, component-near, position-near, positive-near, shape-near, plain-near}
@@ -31,9 +32,9 @@ each : (p : ℕ → Bool) (l : List ℕ) → All p l → Each p l
 each p [] h = tt
 each p (b ∷ l) h = (h .0, each p l (h .1))
 
-name-of : (n : List ℕ) → G.Name n → Name n
-name-of [] h = absurd (let p : 0 < 0 = h .some in omega arith)
-name-of (b ∷ n) h = name b n (each isNotWhite (b ∷ n) (h .whole))
+name-of : (n : List ℕ) → G.Name n → isClear n ≡ true → Name n
+name-of [] h k = absurd (let p : 0 < 0 = h .some in omega arith)
+name-of (b ∷ n) h k = name b n (each isNotWhite (b ∷ n) (h .whole)) (clear-none (b ∷ n) k)
 
 arguments : (ns : List ℕ) → AllNear ns → Arguments (length ns) (args ns)
 arguments [] h = none
@@ -107,11 +108,11 @@ text (b ∷ t) h =
 abbrev Line : Act → Type 0
 Line a = HouseLine (spellAct a)
 
-glyph-line : (n : List ℕ) → G.Name n → Line (glyph n)
+glyph-line : (n : List ℕ) → G.Name n → isClear n ≡ true → Line (glyph n)
 unfolding spellAct
-glyph-line [] h = absurd (let p : 0 < 0 = h .some in omega arith)
-glyph-line (b ∷ []) h = L.glyph b (h .whole .0)
-glyph-line (b ∷ c ∷ n) h = L.named-glyph b c n (each isNotWhite (b ∷ c ∷ n) (h .whole))
+glyph-line [] h k = absurd (let p : 0 < 0 = h .some in omega arith)
+glyph-line (b ∷ []) h k = L.glyph b (name-of (b ∷ []) h k)
+glyph-line (b ∷ c ∷ n) h k = L.named-glyph b c n (name-of (b ∷ c ∷ n) h k)
 
 colour-line : (c : Scheme) (ns : List ℕ) → Good (colour c ns) → Line (colour c ns)
 unfolding spellAct
@@ -160,7 +161,7 @@ to-line down n h = counted _ 1 (n ∷ []) count-V refl (rw h)
 -- every act that is written
 act-line : (a : Act) → Written (manner a) (Good a) → Written (manner a) (Line a)
 unfolding spellAct
-act-line (glyph n) h = glyph-line n (h .1)
+act-line (glyph n) h = glyph-line n (h .1) (h .2)
 act-line (index n) h = counted _ 1 (n ∷ []) count-N refl (h .0)
 act-line (to x n) h = tt
 act-line (by x n) h = tt
@@ -171,11 +172,11 @@ act-line (colour c ns) h = colour-line c ns h
 act-line break h = L.break
 act-line space h = counted _ 0 [] count-w refl refl
 act-line (draw s ns) h = draw-line s ns h
-act-line (device n) h = L.device n (name-of n (h .1))
+act-line (device n) h = L.device n (name-of n (h .1) (h .2))
 act-line (resolution n m v) h = counted _ 3 (n ∷ m ∷ v ∷ []) count-xr refl (positive-near (n ∷ m ∷ v ∷ []) (h .0))
 act-line init h = counted _ 0 [] count-xi refl refl
-act-line (file n) h = L.file n (name-of n (h .1))
-act-line (mount n m) h = L.mount (args (n ∷ [])) m (arguments (n ∷ []) (position-near n (and-left (isPosition n) (isName m && true) (h .0)))) (name-of m (h .1))
+act-line (file n) h = L.file n (name-of n (h .1) (h .2))
+act-line (mount n m) h = L.mount (args (n ∷ [])) m (arguments (n ∷ []) (position-near n (and-left (isPosition n) (isName m && true) (h .0)))) (name-of m (h .1) (h .2))
 act-line (plain c ns) h = plain-line c ns h
 act-line (raw t) h = text t (h .1)
 act-line stop h = counted _ 0 [] count-xs refl refl

@@ -5,6 +5,7 @@ use mathlib.Core.Bool.{Bool, true}
 use mathlib.Core.List.{List, [], _∷_, _++_}
 use mathlib.Core.Path.{_≡_}
 use Rattle.rules.specs.Bytes.{bytes, isNotWhite, isNotNewline, isDigit}
+use Rattle.laws.specs.Barred.{NoBarred}
 
 -- each byte passes a test
 abbrev pub Each : (ℕ → Bool) → List ℕ → Type 0
@@ -75,9 +76,9 @@ pub data Paired : List ℕ → Type 0 where
   pairs-DP : Paired (bytes "DP")
   pairs-D~ : Paired (bytes "D~")
 
--- "A string is one or more non-whitespace bytes"
+-- "A string is one or more non-whitespace bytes"; by 2026-06 none of them is barred in a name or a glyph
 pub data Name : List ℕ → Type 0 where
-  name : (b : ℕ) (n : List ℕ) → Each isNotWhite (b ∷ n) → Name (b ∷ n)
+  name : (b : ℕ) (n : List ℕ) → Each isNotWhite (b ∷ n) → NoBarred (b ∷ n) → Name (b ∷ n)
 
 -- ---- "`x X` has a space and the first line, or neither where that is empty; then `+` lines"
 
@@ -95,8 +96,8 @@ pub data PlusLines : List ℕ → Type 0 where
 -- a command, without the newline that ends it
 pub data HouseLine : List ℕ → Type 0 where
   -- "`c` for a one-byte name, else `C`"
-  glyph : (b : ℕ) → isNotWhite b ≡ true → HouseLine (bytes "c " ++ b ∷ [])
-  named-glyph : (b c : ℕ) (n : List ℕ) → Each isNotWhite (b ∷ c ∷ n) → HouseLine (bytes "C " ++ b ∷ c ∷ n)
+  glyph : (b : ℕ) → Name (b ∷ []) → HouseLine (bytes "c " ++ b ∷ [])
+  named-glyph : (b c : ℕ) (n : List ℕ) → Name (b ∷ c ∷ n) → HouseLine (bytes "C " ++ b ∷ c ∷ n)
   -- "`n` becomes `n 0 0`"
   break : HouseLine (bytes "n 0 0")
   counted : (l : List ℕ) (k : ℕ) (r : List ℕ) → Counted l k → Arguments k r → HouseLine (l ++ r)

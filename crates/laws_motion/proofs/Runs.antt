@@ -16,19 +16,20 @@ use Rattle.rules.specs.Drawing.{formOf, isPaired, wayOf}
 use Rattle.rules.specs.Controls.{plainCount}
 use Rattle.rules.specs.Scan.{isName, isPosition, isPositive, isComponent, isGray, isSwitch, upTo, shapeLimits, plainLimits, Cmds, done, wrong, next, commands, bare}
 use Rattle.rules.specs.Widths as W
-use Rattle.rules.specs.Widths.{Line, linesFrom, isString, Widths, Due, unitDue, blockDue, widthDue, LineRead, wrongLine, rightLine, unitLine, isNew, mayFollow, byteLine, widthLine, numbered, blockLine, lineSays, lineRead, WidthList, unsound, sound, lineOn, linesSay, widthList, Font, widthOf}
+use Rattle.rules.specs.Widths.{Line, linesFrom, isListName, addWidth, Widths, Due, unitDue, blockDue, widthDue, LineRead, wrongLine, rightLine, unitLine, isNew, mayFollow, byteLine, widthLine, numbered, blockLine, lineSays, lineRead, WidthList, unsound, sound, lineOn, linesSay, widthList, Font, widthOf}
 use Rattle.rules.specs.State.{Env, start, Step, refused, went, get, fits, mayGo, mountedAt, isMounted, recorded, indexed, effect, onPage, act, run, Acts, noActs, these, ready, byteActs, wordActs, wordIn, acts, perform, steps}
 use Rattle.rules.specs.Record.{shown}
 use Rattle.laws.proofs.Cases.{on, and-left, and-right, no, if-both, if-on}
 use Rattle.laws.proofs.Good.{allTrue, Name, Count, Good, GoodCmd, AllCmds}
 use Rattle.laws.proofs.Limits.{within-bounds, upTo-near, upTo-few}
+use Rattle.laws_find.proofs.Written.{listed-good}
 use Rattle.laws_scan.proofs.Fair.{commands-good}
 use Rattle.laws_motion.proofs.Steps.{After, if-after, font-after, behind, after-map, then-after}
 use Rattle.laws_motion.proofs.Integers.{abs-diff}
 use Rattle.laws_motion.proofs.Held.{shown-pos}
 use Rattle.laws_motion.proofs.Moved.{numbers-hold, refusal-10}
 use Rattle.laws_motion.specs.Motions.{FromTo, EvenCount, Arguments, AsWritten, Inside}
-use Rattle.laws_motion.specs.Runs.{Each, Any, Components, UpTo64, DrawingLimits, PlainLimits, IsName, InLimits, CmdWritten, InEveryRun, InEveryList}
+use Rattle.laws_motion.specs.Runs.{FontNames, Each, Any, Components, UpTo64, DrawingLimits, PlainLimits, IsName, InLimits, CmdWritten, InEveryRun, InEveryList}
 
 -- ---- what is scanned is as its text makes sure of
 
@@ -280,7 +281,7 @@ in-every-run w s cs ds c e gs xs q k =
 -- ---- a sound width list
 
 abbrev Ranged : Widths → Type 0
-Ranged w = (1 ≤ w .unitwidth) × (w .unitwidth ≤ 100_000)
+Ranged w = (1 ≤ w .unitwidth) × (w .unitwidth ≤ 100_000) × FontNames (w .fonts)
 
 -- once its first line is read
 abbrev SoFar : Due → Widths → Type 0
@@ -296,7 +297,7 @@ unit-good : (o : Option ℕ) → LineGood (unitLine o)
 unit-good none = tt
 unit-good (some n) =
     if-on LineGood (leb 1 n && leb n 100000) _ wrongLine
-    (λ h. (leb-true 1 n (and-left (leb 1 n) (leb n 100000) h), leb-true n 100000 (and-right (leb 1 n) (leb n 100000) h))) (λ h. tt)
+    (λ h. (leb-true 1 n (and-left (leb 1 n) (leb n 100000) h), leb-true n 100000 (and-right (leb 1 n) (leb n 100000) h), tt)) (λ h. tt)
 
 byte-good : (w : Widths) (o : Option ℕ) → Ranged w → LineGood (byteLine w o)
 byte-good w none h = tt
@@ -304,11 +305,18 @@ byte-good w (some b) h = if-both LineGood (mayFollow b (w .fonts)) _ wrongLine h
 
 block-good : (w : Widths) (t : List ℕ) (o : Option (List ℕ)) → Ranged w → LineGood (blockLine w t o)
 block-good w t none h = byte-good w (numbered (W.behind (bytes "byte=") t)) h
-block-good w t (some n) h = if-both LineGood (isString n && (ltb (length (w .fonts)) 32 && isNew n (w .fonts))) _ wrongLine h tt
+block-good w t (some n) h =
+    if-on LineGood (isListName n && (ltb (length (w .fonts)) 32 && isNew n (w .fonts))) _ wrongLine
+    (λ k. (h .0, h .1, (listed-good n (and-left (isListName n) (ltb (length (w .fonts)) 32 && isNew n (w .fonts)) k), h .2))) (λ k. tt)
+
+-- a width changes no name
+width-names : (b n : ℕ) (fs : List Font) → FontNames fs → FontNames (addWidth b n fs)
+width-names b n [] h = tt
+width-names b n (f ∷ fs) h = h
 
 width-good : (w : Widths) (b : ℕ) (o : Option ℕ) → Ranged w → LineGood (widthLine w b o)
 width-good w b none h = tt
-width-good w b (some n) h = if-both LineGood (leb n 100000) _ wrongLine h tt
+width-good w b (some n) h = if-both LineGood (leb n 100000) _ wrongLine (h .0, h .1, width-names b n (w .fonts) (h .2)) tt
 
 says-good : (w : Widths) (t : List ℕ) (d : Due) → SoFar d w → LineGood (lineSays w t d)
 says-good w t unitDue h = unit-good (numbered (W.behind (bytes "unitwidth=") t))

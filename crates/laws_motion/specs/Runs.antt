@@ -7,9 +7,10 @@ use lib.IntN.{natAbs}
 use lib.ListN.{length}
 use Rattle.rules.specs.Act.{Scheme, cmy, default, gray, cmyk, rgb, Shape, line, arc, circle, solidCircle, ellipse, solidEllipse, polygon, solidPolygon, spline, thickness, grayFill, colourFill, Plain, pause, trailer, height, slant, underline, Act, glyph, index, to, by, page, font, size, colour, break, space, draw, device, resolution, init, file, mount, plain, raw, stop, Cmd, just, word, pair}
 use Rattle.rules.specs.Scan.{commands, bare}
-use Rattle.rules.specs.Widths.{Widths, sound, widthList}
+use Rattle.rules.specs.Widths.{Font, Widths, sound, widthList}
 use Rattle.rules.specs.State.{Env, start, Glyph, Item, went, steps}
 use Rattle.rules.specs.Record.{shown}
+use Rattle.laws_find.specs.Written.{GoodName}
 use Rattle.laws_motion.specs.Motions.{InLimit, FromTo, AsWritten, Inside}
 
 -- ---- what holds of a command: its arguments, each within its limit
@@ -106,6 +107,11 @@ abbrev pub InEveryRun : Type 0
 InEveryRun = (w : Widths) (s : List ℕ) (cs ds : List Cmd) (c : Cmd) (e : Env) (gs : List Glyph) (xs : List Item)
     → bare (commands 0 0 s) ≡ cs ++ c ∷ ds → steps w start cs ≡ went e gs xs → RunHolds e c
 
+-- "Font names are strings of 1 to 64 bytes", by 2026-06 without a barred byte
+abbrev pub FontNames : List Font → Type 0
+FontNames [] = Unit {0}
+FontNames (f ∷ fs) = GoodName (f .name) × FontNames fs
+
 -- "`unitwidth=N` (1..100000)"
 abbrev pub InEveryList : Type 0
-InEveryList = (list : List ℕ) (w : Widths) → widthList list ≡ sound w → (1 ≤ w .unitwidth) × (w .unitwidth ≤ 100_000)
+InEveryList = (list : List ℕ) (w : Widths) → widthList list ≡ sound w → (1 ≤ w .unitwidth) × (w .unitwidth ≤ 100_000) × FontNames (w .fonts)

@@ -22,9 +22,10 @@ use Rattle.rules.specs.Answers.{streamMost, isOver, read, roomFor, readInto, no
 use Rattle.laws.proofs.Cases.{on, no, or-true}
 use Rattle.laws_scan.proofs.Bounds.{bad-place}
 use Rattle.laws_arguments.proofs.Arguments.{pointsAtArgument}
+use Rattle.laws_arguments.proofs.Names.{refusesBarred}
 use Rattle.laws_scan.proofs.Walk.{from, from-end, from-white, from-comment, from-bad, from-got}
 use Rattle.laws_find.specs.Written.{gapLine}
-use Rattle.laws_offsets.specs.Stream.{byteAt, behindAt, commandAt, FirstByte, ReadTo, from-start, past-white, past-comment, past-command, Fault, as-written, by-argument, as-done, behind-stop, StreamOffset, at-command, at-end}
+use Rattle.laws_offsets.specs.Stream.{byteAt, behindAt, commandAt, FirstByte, ReadTo, from-start, past-white, past-comment, past-command, Fault, as-written, by-argument, by-name, as-done, behind-stop, StreamOffset, at-command, at-end}
 use Rattle.laws_offsets.specs.Lists.{LineStart, first-line, behind-newline, lineEnd, WrongAt, unended, wrong-line, missing, ListOffset, AskedWrongAt, empty, unended-line, wrong-asked, last-gap, QueryOffset}
 use Rattle.laws_offsets.specs.Offsets.{NotTooLong, ReadOffset, too-long, in-list, in-stream, FindOffset, one-too-long, then-in-list, then-in-query, then-in-stream, Exactly}
 use Rattle.laws_offsets.proofs.ByNumber.{start-inside}
@@ -92,7 +93,7 @@ list-refused list at x = go (widthList list) refl (W.list-claim list)
 
     go : (a : WidthList) → widthList list ≡ a → W.Claim list a → widthList list ≡ unsound at
     go (unsound p) e c = e ∙ ap unsound (one-place p at (list-order list p at c x) (list-order list at p x c))
-    go (sound w) e c = absurd (not-sound w e c (x .here))
+    go (sound w) e c = absurd (not-sound w e (rw append-nil at (c .start [])) (x .here))
 
 abbrev queryPlace : Query → ℕ
 queryPlace (illFormed at) = at
@@ -199,6 +200,7 @@ module _ (w : Widths) (s : List ℕ) where
   fault-refused p e _ _ b (as-written n k h q lo hi) =
       rw (from-bad s p (b .inside) (b .no-white) (b .no-comment) n k h, q, bad-place (byteAt s p) (behindAt s p) n k h (λ z. omega arith), add-zero)
   fault-refused p e _ _ b (by-argument k o q) = rw (from-bad s p (b .inside) (b .no-white) (b .no-comment) 6 k (pointsAtArgument .given (byteAt s p) (behindAt s p) k o), q)
+  fault-refused p e _ _ b (by-name o q) = rw (from-bad s p (b .inside) (b .no-white) (b .no-comment) 16 0 (refusesBarred .given (byteAt s p) (behindAt s p) o), q, add-zero)
   fault-refused p e _ _ b (as-done n c a l h q lo hi) = rw (from-got s p (b .inside) (b .no-white) (b .no-comment) c a l h, q)
   fault-refused p e _ _ b (behind-stop n k h q) = rw (from-bad s p (b .inside) (b .no-white) (b .no-comment) n k h, q)
 

@@ -2,6 +2,7 @@ pub mod Numbers
 pub mod Stream
 pub mod Lines
 pub mod Widths
+pub mod FontLines
 pub mod Query
 pub mod Offsets
 pub mod ByNumber

@@ -19,7 +19,7 @@ use Rattle.rules.specs.State.{get, fits, mayGo, Env, start, Glyph, Item, Step, 
 use Rattle.rules.specs.Record.{GlyphRow, ItemRow, namePlace, glyphRows, itemRows, Answer, refuse, answer, afterRows, goOn, follow}
 use Rattle.rules.specs.Answers.{streamMost, isOver, readWith, read}
 use Rattle.laws.proofs.Cases.{on, no, if-both, if-on}
-use Rattle.laws_scan.proofs.Bounds.{span-le, command-within, nameOf}
+use Rattle.laws_scan.proofs.Bounds.{span-le, command-within, glyphsIn}
 use Rattle.laws_scan.proofs.Walk.{from, from-white, from-comment, from-got}
 use Rattle.laws_scan.proofs.Names.{cat, Cats, step-cats}
 use Rattle.laws_offsets.specs.Stream.{byteAt, behindAt, commandAt, FirstByte, ReadTo, from-start, past-white, past-comment, past-command}
@@ -171,8 +171,8 @@ bytes-append (f ∷ front) g = omega (arith, bytes-append front g)
 module _ (w : Widths) (s : List ℕ) (at : ℕ) (c : Cmd) (a l : ℕ) (xs : List Item) where
   no-index-name : (front : List Glyph) (g : Glyph) (rest : List Glyph) → Performed w s at c a l (front ++ g ∷ rest) xs → (n : ℕ) → c ≡ just (index n) → length (g .name) ≡ 0
   no-index-name front g rest p n q =
-      let k : cat (front ++ g ∷ rest) ≡ nameOf c = rw (p .made) at (step-cats w (p .env) c) in
-      omega (arith, name-in-cat front g rest, ap length k, ap (λ (x : Cmd). length (nameOf x)) q)
+      let k : cat (front ++ g ∷ rest) ≡ glyphsIn c = rw (p .made) at (step-cats w (p .env) c) in
+      omega (arith, name-in-cat front g rest, ap length k, ap (λ (x : Cmd). length (glyphsIn x)) q)
 
   one-record : (front : List Glyph) (g : Glyph) (rest : List Glyph) (m : ℕ) → m ≡ at + a + nameBytes front → Performed w s at c a l (front ++ g ∷ rest) xs
       → RecordAt w s (record { glyph = g; place = namePlace m (g .name) })

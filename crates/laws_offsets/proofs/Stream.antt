@@ -4,6 +4,7 @@ use native.Mathlib.Omega.{arith}
 use native.Mathlib.Nat.{add-zero}
 use mathlib.Core.Bool.{false}
 use mathlib.Core.List.{List, [], _∷_}
+use mathlib.Core.Logic.{inl, inr}
 use mathlib.Core.Path.{_≡_, refl, sym, ap, _∙_}
 use borrow.Author.Tests.{eqb-true, eqb-false}
 use lib.Dec.{eqb}
@@ -18,8 +19,10 @@ use Rattle.rules.specs.Record.{GlyphRow, ItemRow, Answer, refuse, answer, after
 use Rattle.laws.proofs.Cases.{if-on, on, no}
 use Rattle.laws_read.proofs.Numbers.{StepIn, step-in}
 use Rattle.laws_scan.proofs.Bounds.{span-le, command-within, bad-place}
+use Rattle.laws_arguments.specs.Names.{BarredIn}
 use Rattle.laws_arguments.proofs.Arguments.{pointsAtArgument}
-use Rattle.laws_offsets.specs.Stream.{byteAt, behindAt, commandAt, Between, at-start, behind-white, behind-comment, behind-command, FirstByte, ReadTo, from-start, past-white, past-comment, past-command, as-written, by-argument, as-done, behind-stop, StreamOffset, at-command, at-end}
+use Rattle.laws_arguments.proofs.Names.{refusesBarred}
+use Rattle.laws_offsets.specs.Stream.{byteAt, behindAt, commandAt, Between, at-start, behind-white, behind-comment, behind-command, FirstByte, ReadTo, from-start, past-white, past-comment, past-command, as-written, by-argument, by-name, as-done, behind-stop, StreamOffset, at-command, at-end}
 use Rattle.laws_offsets.proofs.Numbers.{ScanIn, command-in, stopped-7}
 
 abbrev numberOf : Step → ℕ
@@ -48,6 +51,13 @@ module _ (w : Widths) (s : List ℕ) where
     six-points : (k : ℕ) → commandAt s at ≡ bad 6 k → stopped e ≡ false → StreamOffset w s 6 (at + k)
     six-points k p q = at-command 6 (at + k) (record { place = at; first = f; env = e; read-to = h; fault = by-argument k (pointsAtArgument .points (byteAt s at) (behindAt s at) k p) q; after-stop = λ x. no (sym q ∙ x) })
 
+    other-points : (n k : ℕ) → commandAt s at ≡ bad n k → stopped e ≡ false → (n ≡ 6 → ⊥) → ScanIn (bad n k) → StreamOffset w s n at
+    other-points n k p q y (inl g) =
+        at-command n at (record { place = at; first = f; env = e; read-to = h; fault = as-written n k p q (g .0) (omega (arith, y)); after-stop = λ x. no (sym q ∙ x) })
+    other-points n k p q y (inr g) =
+        let b : BarredIn (byteAt s at) (behindAt s at) = refusesBarred .points (byteAt s at) (behindAt s at) k (rw g at p) .1 in
+        rw g (at-command 16 at (record { place = at; first = f; env = e; read-to = h; fault = by-name b q; after-stop = λ x. no (sym q ∙ x) }))
+
     written-points : (n k : ℕ) → commandAt s at ≡ bad n k → stopped e ≡ false → StreamOffset w s n (at + k)
     written-points n k p q =
         let g : ScanIn (bad n k) = rw p at (command-in (byteAt s at) (behindAt s at)) in
@@ -55,8 +65,7 @@ module _ (w : Widths) (s : List ℕ) where
         (λ z. let y : n ≡ 6 = eqb-true n 6 z in rw y (six-points k (rw y at p) q))
         (λ z.
         let y : n ≡ 6 → ⊥ = eqb-false n 6 z in
-        rw (bad-place (byteAt s at) (behindAt s at) n k p y, add-zero)
-        (at-command n at (record { place = at; first = f; env = e; read-to = h; fault = as-written n k p q (g .0) (omega (arith, y)); after-stop = λ x. no (sym q ∙ x) })))
+        rw (bad-place (byteAt s at) (behindAt s at) n k p y, add-zero) (other-points n k p q y g))
 
     bad-points : (n k : ℕ) → commandAt s at ≡ bad n k → Points (if stopped e then refuse 7 at else refuse n (at + k))
     bad-points n k p =

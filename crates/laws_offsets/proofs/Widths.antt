@@ -20,9 +20,9 @@ abbrev noWidths : Widths
 noWidths = record { unitwidth = 0; fonts = [] }
 
 -- The lines of pre are right, and this is due behind them.
-record ReadTo (pre : List ℕ) (w : Widths) (d : Due) : Type 0 where
+pub record ReadTo (pre : List ℕ) (w : Widths) (d : Due) : Type 0 where
   on : (n : ℕ) (m : List ℕ) → linesSay n noWidths unitDue (linesFrom 0 (pre ++ m)) ≡ linesSay n w d (linesFrom (length pre) m)
-  start : (m : List ℕ) → LineStart (pre ++ m) (length pre)
+  pub start : (m : List ℕ) → LineStart (pre ++ m) (length pre)
 
 module _ (pre : List ℕ) (w : Widths) (d : Due) (h : ReadTo pre w d) where
   -- a line of the text t that is right, and one that is wrong
@@ -31,17 +31,17 @@ module _ (pre : List ℕ) (w : Widths) (d : Due) (h : ReadTo pre w d) where
   unfolding linesSay
   right-so n t m d′ w′ k e = h .on n (t ++ 10 ∷ m) ∙ rw (line-front t (length pre) m k, e)
 
-  wrong-so : (t m : List ℕ) → OneLine t → lineSays w t d ≡ wrongLine → widthList (pre ++ (t ++ 10 ∷ m)) ≡ unsound (length pre)
+  pub wrong-so : (t m : List ℕ) → OneLine t → lineSays w t d ≡ wrongLine → widthList (pre ++ (t ++ 10 ∷ m)) ≡ unsound (length pre)
   unfolding widthList linesSay
   wrong-so t m k e = h .on (length (pre ++ (t ++ 10 ∷ m))) (t ++ 10 ∷ m) ∙ rw (line-front t (length pre) m k, e)
 
-  next-line : (t : List ℕ) (d′ : Due) (w′ : Widths) → OneLine t → lineSays w t d ≡ rightLine d′ w′ → ReadTo (longer pre t) w′ d′
+  pub next-line : (t : List ℕ) (d′ : Due) (w′ : Widths) → OneLine t → lineSays w t d ≡ rightLine d′ w′ → ReadTo (longer pre t) w′ d′
   next-line t d′ w′ k e = record {
     on = λ n m. rw (longer-on pre t m, right-so n t m d′ w′ k e, longer-length pre t);
     start = λ m. longer-start pre t m;
   }
 
-  ends-so : widthList pre ≡ listEnds (length pre) w d
+  pub ends-so : widthList pre ≡ listEnds (length pre) w d
   unfolding widthList linesFrom linesSay
   ends-so = rw append-nil at (h .on (length pre) [])
 
@@ -77,15 +77,15 @@ module _ (pre : List ℕ) (w : Widths) (d : Due) (h : ReadTo pre w d) where
       let x : WrongAt pre (length pre) = missing refl (λ x y. no (ap isSound (sym (ends-so ∙ u) ∙ y))) t v l (rw (right-so (length (pre ++ (t ++ 10 ∷ []))) t [] blockDue v (is-line t l) e)) in
       rw append-nil at (offset [] (rw append-nil x))
 
--- what is said of a list that is refused; of one that is not, that its last line is ended
+-- what is said of a list that is refused; of one that is not, that its lines are right and a block may follow
 abbrev pub Claim : List ℕ → WidthList → Type 0
 Claim list (unsound at) = ListOffset list at
-Claim list (sound w) = LineStart list (length list)
+Claim list (sound w) = ReadTo list w blockDue
 
 end-claim : (pre : List ℕ) (w : Widths) (d : Due) → ReadTo pre w d → Claim pre (listEnds (length pre) w d)
 unfolding behind span
 end-claim pre w unitDue h = end-offset pre w unitDue h (bytes "unitwidth=1") _ refl refl refl
-end-claim pre w blockDue h = rw append-nil at (h .start [])
+end-claim pre w blockDue h = h
 end-claim pre w (widthDue b) h = end-offset pre w (widthDue b) h (bytes "width=0") _ refl refl refl
 
 claims : {post : List ℕ} → Lines post → (pre : List ℕ) (w : Widths) (d : Due) → ReadTo pre w d → Claim (pre ++ post) (linesSay (length (pre ++ post)) w d (linesFrom (length pre) post))

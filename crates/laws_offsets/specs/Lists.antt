@@ -1,14 +1,14 @@
 -- Places of a width list and of a query, said of their bytes (document 01, "Refusal numbers and their order", 2 and 12): the "start of
--- its first wrong line".
+-- its first wrong line". And which `font` lines a sound list may go on with.
 use Prim.Native.Nat.{ℕ, _+_, _<_}
 use mathlib.Core.List.{List, [], _∷_, _++_}
 use mathlib.Core.Logic.{_⊎_}
 use mathlib.Core.Path.{_≡_}
 use lib.ListN.{length, take, drop}
-use Rattle.rules.specs.Bytes.{oneLine}
-use Rattle.rules.specs.Widths.{Widths, unsound, sound, widthList}
+use Rattle.rules.specs.Bytes.{bytes, oneLine}
+use Rattle.rules.specs.Widths.{Font, Widths, unsound, sound, widthList}
 use Rattle.rules.specs.Find.{Wanted, illFormed, wellFormed, query}
-use Rattle.laws_find.specs.Written.{gapLine}
+use Rattle.laws_find.specs.Written.{gapLine, GoodName}
 use Rattle.laws_offsets.specs.Stream.{byteAt}
 
 -- where a line starts: at the first byte, or behind a newline
@@ -39,6 +39,34 @@ pub record ListOffset (list : List ℕ) (at : ℕ) : Type 0 where
   -- "its first wrong line": an empty line in its place would be the first wrong one too
   pub first : (m : List ℕ) → widthList (take at list ++ 10 ∷ m) ≡ unsound at
   pub here : WrongAt list at
+
+-- ---- `font=NAME`: "Font names are strings of 1 to 64 bytes and differ", "up to 32 blocks"; by 2026-06 none has a barred byte
+
+abbrev pub fontText : List ℕ → List ℕ
+fontText name = bytes "font=" ++ (name ++ bytes "\n")
+
+abbrev pub NoNewline : List ℕ → Type 0
+NoNewline [] = Unit {0}
+NoNewline (b ∷ t) = (b ≡ 10 → ⊥) × NoNewline t
+
+abbrev pub NewName : List ℕ → List Font → Type 0
+NewName n [] = Unit {0}
+NewName n (f ∷ fs) = (f .name ≡ n → ⊥) × NewName n fs
+
+-- what a further block asks of its name
+pub record MayOpen (n : List ℕ) (fs : List Font) : Type 0 where
+  pub good : GoodName n
+  pub few : length fs < 32
+  pub new : NewName n fs
+
+abbrev pub withBlock : List ℕ → Widths → Widths
+withBlock n w = record { unitwidth = w .unitwidth; fonts = record { name = n; widths = [] } ∷ w .fonts }
+
+-- Behind a sound list the line of such a name is right, and opens a block; that of any other name is the first wrong line, whatever
+-- stands behind it.
+pub record FontLines : Type 0 where
+  pub given : (list : List ℕ) (w : Widths) (n : List ℕ) → widthList list ≡ sound w → MayOpen n (w .fonts) → widthList (list ++ fontText n) ≡ sound (withBlock n w)
+  pub only : (list : List ℕ) (w : Widths) (n m : List ℕ) → widthList list ≡ sound w → NoNewline n → (MayOpen n (w .fonts) → ⊥) → widthList (list ++ (fontText n ++ m)) ≡ unsound (length list)
 
 -- ---- 12: "query; start of its first wrong line (a last gap line is that line), 0 if empty"
 

@@ -12,7 +12,7 @@ use Rattle.rules.specs.Widths.{Widths, unsound, sound, widthList}
 use Rattle.rules.specs.Record.{refuse}
 use Rattle.rules.specs.Find.{Wanted, illFormed, wellFormed, query}
 use Rattle.rules.specs.Answers.{read, readInto, notSpelled, respell, respellInto, notFound, find, findInto, judge}
-use Rattle.laws_offsets.specs.Stream.{FirstByte, ArgumentAt, StreamOffset}
+use Rattle.laws_offsets.specs.Stream.{FirstByte, ArgumentAt, BarredAt, StreamOffset}
 use Rattle.laws_offsets.specs.Lists.{ListOffset, QueryOffset}
 
 -- 1: "stream over 16,777,216 bytes, list over 65,536, query over 8,192; offset 0". A stream and a list of which this is not so:
@@ -21,7 +21,7 @@ pub record NotTooLong (s list : List ℕ) : Type 0 where
   pub list-short : length list ≤ 65_536
 
 -- The table's rows, each with its reason and its offset; "Order: 1, 2, 12, then the stream from its start": a row asks that the reasons
--- before it are not there. Of the reader, room aside: 1 at 0; 2 in the width list; 3 to 11 in the stream, read with a sound list.
+-- before it are not there. Of the reader, room aside: 1 at 0; 2 in the width list; 3 to 11 and 16 in the stream, read with a sound list.
 pub data ReadOffset (s list : List ℕ) : ℕ → ℕ → Type 0 where
   too-long : (16_777_216 < length s) ⊎ (65_536 < length list) → ReadOffset s list 1 0
   in-list : (at : ℕ) → NotTooLong s list → ListOffset list at → ReadOffset s list 2 at
@@ -55,8 +55,12 @@ pub record Offsets : Type 0 where
 abbrev pub inputOf : ℕ → List ℕ → List ℕ → List ℕ → List ℕ
 inputOf n s list q = if eqb n 2 then list else if eqb n 12 then q else s
 
+-- the table's numbers up to one of 01's, and 16 by 2026-06; the table has 1 to 13, and 16
+abbrev pub InTableTo : ℕ → ℕ → Type 0
+InTableTo most n = ((1 ≤ n) × (n ≤ most)) ⊎ (n ≡ 16)
+
 pub record Said (s list q : List ℕ) (n at : ℕ) : Type 0 where
-  pub number : (1 ≤ n) × (n ≤ 13)
+  pub number : InTableTo 13 n
   -- (the reader and the rewriter have no query, so an empty one here)
   pub of-1 : n ≡ 1 → (at ≡ 0) × ((16_777_216 < length s) ⊎ (65_536 < length list) ⊎ (8_192 < length q))
   pub of-2 : n ≡ 2 → ListOffset list at
@@ -66,13 +70,14 @@ pub record Said (s list q : List ℕ) (n at : ℕ) : Type 0 where
   pub of-11 : n ≡ 11 → at ≡ length s
   pub of-12 : n ≡ 12 → QueryOffset q at
   pub of-13 : n ≡ 13 → at ≡ 0
+  pub of-16 : n ≡ 16 → BarredAt s at
   pub inside : at ≤ length (inputOf n s list q)
 
 pub record ByNumber : Type 0 where
   pub reader : (records entries : ℕ) (s list : List ℕ) (n at : ℕ) → readInto records entries s list ≡ refuse n at → Said s list [] n at × (n ≡ 12 → ⊥)
   pub rewriter : (room : ℕ) (s list : List ℕ) (n at : ℕ) → respellInto room s list ≡ notSpelled n at → Said s list [] n at × (n ≡ 12 → ⊥)
   pub finder : (records hits : ℕ) (s list q : List ℕ) (n at : ℕ) → findInto records hits s list q ≡ notFound n at → Said s list q n at
-  pub judge : (s list : List ℕ) (n at : ℕ) → judge s list ≡ J.Refused n at → Said s list [] n at × (n ≤ 11)
+  pub judge : (s list : List ℕ) (n at : ℕ) → judge s list ≡ J.Refused n at → Said s list [] n at × InTableTo 11 n
 
 -- ---- "Each is given exactly for its reason."
 

@@ -11,6 +11,7 @@ use Rattle.rules.specs.Scan.{Scan, got, bad, command}
 use Rattle.rules.specs.Widths.{Widths}
 use Rattle.rules.specs.State.{Env, start, Glyph, Item, refused, went, acts, perform, stopped}
 use Rattle.laws_arguments.specs.Arguments.{OutsideAt}
+use Rattle.laws_arguments.specs.Names.{BarredIn}
 
 -- the byte at a place, and what stands behind it
 abbrev pub byteAt : List ℕ → ℕ → ℕ
@@ -48,6 +49,11 @@ pub record ArgumentAt (s : List ℕ) (at : ℕ) : Type 0 where
   pub offset : at ≡ place + behind
   pub outside : ArgumentOutside s place behind
 
+-- 2026-06: a command with a barred byte in a name; the offset is its first byte
+pub record BarredAt (s : List ℕ) (at : ℕ) : Type 0 where
+  pub first : FirstByte s at
+  pub barred : BarredIn (byteAt s at) (behindAt s at)
+
 -- ---- "the command at fault"
 
 -- The commands up to a place have been read, with these widths, and this is the environment behind them.
@@ -58,11 +64,13 @@ pub data ReadTo (w : Widths) (s : List ℕ) : ℕ → Env → Type 0 where
   past-command : (at : ℕ) (e d : Env) (c : Cmd) (a l : ℕ) (gs : List Glyph) (xs : List Item) → ReadTo w s at e
       → commandAt s at ≡ got c a l → perform e (acts w e c) ≡ went d gs xs → ReadTo w s (at + l) d
 
--- What stands at a place p is at fault in this environment, with this number and offset: 3 to 5 as it is written; 6 by an argument; 7 to
--- 10 by what it does; behind `x s` "a byte of anything" is 7, whatever is written there.
+-- What stands at a place p is at fault in this environment, with this number and offset: 3 to 5 as it is written; 6 by an argument; 16 by
+-- a name, where nothing is outside its limit ("tested after 6 and before 7"); 7 to 10 by what it does; behind `x s` "a byte of anything"
+-- is 7, whatever is written there.
 pub data Fault (w : Widths) (s : List ℕ) (p : ℕ) (e : Env) : ℕ → ℕ → Type 0 where
   as-written : (n k : ℕ) → commandAt s p ≡ bad n k → stopped e ≡ false → 3 ≤ n → n ≤ 5 → Fault w s p e n p
   by-argument : (k : ℕ) → ArgumentOutside s p k → stopped e ≡ false → Fault w s p e 6 (p + k)
+  by-name : BarredIn (byteAt s p) (behindAt s p) → stopped e ≡ false → Fault w s p e 16 p
   as-done : (n : ℕ) (c : Cmd) (a l : ℕ) → commandAt s p ≡ got c a l → perform e (acts w e c) ≡ refused n → 7 ≤ n → n ≤ 10 → Fault w s p e n p
   behind-stop : (n k : ℕ) → commandAt s p ≡ bad n k → stopped e ≡ true → Fault w s p e 7 p
 
@@ -75,7 +83,7 @@ pub record AtFault (w : Widths) (s : List ℕ) (n at : ℕ) : Type 0 where
   -- "nothing else is judged there"
   pub after-stop : stopped env ≡ true → n ≡ 7
 
--- What a refusal of a stream points at: 3 to 10 at the command at fault, or in it; "no `x s`; offset is the length" is 11.
+-- What a refusal of a stream points at: 3 to 10 and 16 at the command at fault, or in it; "no `x s`; offset is the length" is 11.
 pub data StreamOffset (w : Widths) (s : List ℕ) : ℕ → ℕ → Type 0 where
   at-command : (n at : ℕ) → AtFault w s n at → StreamOffset w s n at
   at-end : (e : Env) → ReadTo w s (length s) e → stopped e ≡ false → StreamOffset w s 11 (length s)

@@ -10,12 +10,12 @@ use lib.Dec.{eqb}
 use lib.ListN.{length, length-append}
 use lib.Seq.{drop-append-seam, take-append-seam}
 use borrow.Author.Tests.{not-true, ne-eqb, eqb-true}
-use Rattle.rules.specs.Bytes.{is, isSpace, isWhite, isNotWhite, isDigit, span, spacer, unspaced, Num, value, integer, moved, near, Nums, nums, withNum, afterInt, integers, isPresent, manyIntegers, perhapsInteger}
+use Rattle.rules.specs.Bytes.{is, isSpace, isWhite, isNotWhite, isClear, isDigit, span, spacer, unspaced, Num, value, integer, moved, near, Nums, nums, withNum, afterInt, integers, isPresent, manyIntegers, perhapsInteger}
 use Rattle.rules.specs.Act.{across, down, Scheme, cmy, default, gray, cmyk, rgb, Shape, line, arc, circle, solidCircle, ellipse, solidEllipse, polygon, solidPolygon, spline, thickness, grayFill, colourFill, Plain, pause, trailer, height, slant, underline, Act, glyph, index, to, by, page, font, size, colour, break, space, draw, device, resolution, init, file, mount, plain, raw, stop, Cmd, just}
 use Rattle.rules.specs.Letters.{Draft, draft, withOne, withAll, named, numberNamed, schemeOf, components, coloured}
 use Rattle.rules.specs.Drawing.{lineEnds, closed, Form, exactly, dummied, paired, formOf, isPaired, drawn, drawing}
 use Rattle.rules.specs.Controls.{resolutionOf, plainCount, plainly, rawText, rawLength, rawly, control}
-use Rattle.rules.specs.Scan.{letter, isPosition, isName, limits, outside, Scan, got, bad, judged, command}
+use Rattle.rules.specs.Scan.{letter, isPosition, isName, limits, nameOf, outside, Scan, got, bad, judged, command}
 use Rattle.rules.specs.Record.{schemeLetter}
 use Rattle.rules.specs.House.{signedDecimal, args, plusLines, spellAct}
 use Rattle.laws.proofs.Cases.{on, no, and-left, and-right, not-or-left, Stops, span-stops, span-all}
@@ -207,16 +207,16 @@ outside-none (true ∷ bs) (k ∷ ks) h = outside-none bs ks h
 outside-none (false ∷ bs) [] h = no h
 outside-none (false ∷ bs) (k ∷ ks) h = no h
 
--- a draft of an act within its limits
-judge : (a : Act) (ks : List ℕ) (m l j : ℕ) (t : List ℕ) (d : Draft) → allTrue (limits a) ≡ true → d ≡ draft (just a) [] ks m l t → l ≡ j
+-- a draft of an act within its limits, no byte of its name barred
+judge : (a : Act) (ks : List ℕ) (m l j : ℕ) (t : List ℕ) (d : Draft) → allTrue (limits a) ≡ true → isClear (nameOf a) ≡ true → d ≡ draft (just a) [] ks m l t → l ≡ j
     → judged d ≡ got (just a) m j
-judge a ks m l j t d h e q = rw (e, q, append-nil (limits a), outside-none (limits a) ks h)
+judge a ks m l j t d h g e q = rw (e, q, append-nil (limits a), outside-none (limits a) ks h, g)
 
 -- the same, of a drawing or control whose arguments end where its line does
-judge-closed : (a : Act) (ks : List ℕ) (m l j : ℕ) (r : List ℕ) (d : Draft) → allTrue (limits a) ≡ true → d ≡ draft (just a) [] ks m l (10 ∷ r) → l ≡ j
+judge-closed : (a : Act) (ks : List ℕ) (m l j : ℕ) (r : List ℕ) (d : Draft) → allTrue (limits a) ≡ true → isClear (nameOf a) ≡ true → d ≡ draft (just a) [] ks m l (10 ∷ r) → l ≡ j
     → judged (closed d) ≡ got (just a) m j
 unfolding lineEnds
-judge-closed a ks m l j r d h e q = judge a ks m l j (10 ∷ r) (closed d) h (rw e) q
+judge-closed a ks m l j r d h g e q = judge a ks m l j (10 ∷ r) (closed d) h g (rw e) q
 
 -- ---- every act
 
@@ -253,27 +253,27 @@ Back a r = scan (spellAct a ++ 10 ∷ r) ≡ got (just a) (nameAt a) (length (sp
 glyph-back : (n r : List ℕ) → Good (glyph n) → Back (glyph n) r
 unfolding letter spellAct span
 glyph-back [] r h = absurd (let p : 0 < 0 = h .1 .some in omega arith)
-glyph-back (b ∷ []) r h = rw (not-or-left (isSpace b) (eqb b 10) (h .1 .whole .0), not-true (isWhite b) (h .1 .whole .0))
+glyph-back (b ∷ []) r h = rw (not-or-left (isSpace b) (eqb b 10) (h .1 .whole .0), not-true (isWhite b) (h .1 .whole .0), h .2)
 glyph-back (b ∷ c ∷ n) r h =
-    judge (glyph (b ∷ c ∷ n)) (2 ∷ []) 2 _ _ (10 ∷ r) _ (h .0) (named-back r (λ m. just (glyph m)) [] 1 (b ∷ c ∷ n) (h .1)) (omega arith)
+    judge (glyph (b ∷ c ∷ n)) (2 ∷ []) 2 _ _ (10 ∷ r) _ (h .0) (h .2) (named-back r (λ m. just (glyph m)) [] 1 (b ∷ c ∷ n) (h .1)) (omega arith)
 
 break-back : (r : List ℕ) → Back break r
 unfolding letter spellAct span integers integer value
 break-back r = refl
 
 -- a command of one integer
-one-scan : (f : ℕ → Act) (n : ℕ) (r : List ℕ) → AllNear (n ∷ []) → allTrue (limits (f n)) ≡ true
+one-scan : (f : ℕ → Act) (n : ℕ) (r : List ℕ) → AllNear (n ∷ []) → allTrue (limits (f n)) ≡ true → isClear (nameOf (f n)) ≡ true
     → judged (withOne f (integers 1 1 (args (n ∷ []) ++ 10 ∷ r))) ≡ got (just (f n)) 0 (suc (length (args (n ∷ []))))
-one-scan f n r g h = judge (f n) _ 0 _ _ _ _ h (one-back r f n g) (omega arith)
+one-scan f n r g h k = judge (f n) _ 0 _ _ _ _ h k (one-back r f n g) (omega arith)
 
 -- a control that is a name
-name-scan : (f : List ℕ → Act) (n r : List ℕ) → Name n → allTrue (limits (f n)) ≡ true
+name-scan : (f : List ℕ → Act) (n r : List ℕ) → Name n → allTrue (limits (f n)) ≡ true → isClear (nameOf (f n)) ≡ true
     → judged (closed (named (λ m. just (f m)) [] 3 (32 ∷ (n ++ 10 ∷ r)))) ≡ got (just (f n)) 4 (suc (suc (suc (suc (length n)))))
-name-scan f n r g h = judge-closed (f n) _ 4 _ _ r _ h (named-back r (λ m. just (f m)) [] 3 n g) (omega arith)
+name-scan f n r g h k = judge-closed (f n) _ 4 _ _ r _ h k (named-back r (λ m. just (f m)) [] 3 n g) (omega arith)
 
 shape-scan : (s : Shape) (ns r : List ℕ) → Good (draw s ns)
     → judged (closed (drawn s 2 (args ns ++ 10 ∷ r) (formOf s))) ≡ got (just (draw s ns)) 0 (suc (suc (length (args ns))))
-shape-scan s ns r h = judge-closed (draw s ns) _ 0 _ _ r _ (h .0) (drawn-back r s (formOf s) 2 ns (h .1) (shape-near s ns (h .0))) (omega arith)
+shape-scan s ns r h = judge-closed (draw s ns) _ 0 _ _ r _ (h .0) refl (drawn-back r s (formOf s) 2 ns (h .1) (shape-near s ns (h .0))) (omega arith)
 
 draw-back : (s : Shape) (ns r : List ℕ) → Good (draw s ns) → Back (draw s ns) r
 unfolding letter spellAct span drawing
@@ -289,7 +289,7 @@ draw-back spline ns r h = shape-scan spline ns r h
 draw-back thickness ns r h = shape-scan thickness ns r h
 draw-back grayFill ns r h = shape-scan grayFill ns r h
 draw-back (colourFill c) ns r h =
-    judge-closed (draw (colourFill c) ns) _ 0 _ _ r _ (h .0) (coloured-back r (λ x. draw (colourFill x)) c 2 ns (h .1) (component-near ns (h .0))) (omega arith)
+    judge-closed (draw (colourFill c) ns) _ 0 _ _ r _ (h .0) refl (coloured-back r (λ x. draw (colourFill x)) c 2 ns (h .1) (component-near ns (h .0))) (omega arith)
 
 -- a control's word ends where its arguments begin
 args-word : (ns r : List ℕ) → span isNotWhite (args ns ++ 10 ∷ r) ≡ 0
@@ -300,7 +300,7 @@ args-word (n ∷ ns) r = refl
 plain-scan : (c : Plain) (ns r : List ℕ) → Good (plain c ns)
     → judged (closed (plainly c 3 (args ns ++ 10 ∷ r))) ≡ got (just (plain c ns)) 0 (suc (suc (suc (length (args ns)))))
 plain-scan c ns r h =
-    judge-closed (plain c ns) _ 0 _ _ r _ (h .0) (all-back r (plain c) (plainCount c) 3 ns (h .1) (plain-near c ns (h .0))) (omega arith)
+    judge-closed (plain c ns) _ 0 _ _ r _ (h .0) refl (all-back r (plain c) (plainCount c) 3 ns (h .1) (plain-near c ns (h .0))) (omega arith)
 
 plain-back : (c : Plain) (ns r : List ℕ) → Good (plain c ns) → Back (plain c ns) r
 unfolding letter spellAct span control
@@ -316,7 +316,7 @@ rawly-back : (k : ℕ) (t r : List ℕ) → NoPlus r
 rawly-back k t r h = rw (raw-back t r h, length-back t r h, drop-append-seam (plusLines t) (10 ∷ r))
 
 raw-scan : (k : ℕ) (t r : List ℕ) → Good (raw t) → NoPlus r → judged (rawly k (plusLines t ++ 10 ∷ r)) ≡ got (just (raw t)) 0 (k + length (plusLines t))
-raw-scan k t r h p = judge (raw t) (k ∷ []) 0 _ _ (10 ∷ r) (rawly k (plusLines t ++ 10 ∷ r)) (h .0) (rawly-back k t r p) refl
+raw-scan k t r h p = judge (raw t) (k ∷ []) 0 _ _ (10 ∷ r) (rawly k (plusLines t ++ 10 ∷ r)) (h .0) refl (rawly-back k t r p) refl
 
 text-back : (t r : List ℕ) → Good (raw t) → NoPlus r → Back (raw t) r
 unfolding letter spellAct span control plusLines
@@ -329,27 +329,27 @@ text-back (b ∷ t) r h k =
 pub scan-back : (a : Act) (r : List ℕ) → Good a → NoPlus r → scan (spellAct a ++ 10 ∷ r) ≡ got (just a) (nameAt a) (length (spellAct a))
 unfolding letter spellAct control span
 scan-back (glyph n) r h k = glyph-back n r h
-scan-back (index n) r h k = one-scan index n r (h .0) (h .0)
-scan-back (to across n) r h k = one-scan (to across) n r (h .0) (h .0)
-scan-back (to down n) r h k = one-scan (to down) n r (h .0) (h .0)
-scan-back (by across n) r h k = one-scan (by across) n r (h .0) (h .0)
-scan-back (by down n) r h k = one-scan (by down) n r (h .0) (h .0)
-scan-back (page n) r h k = one-scan page n r (h .0) (h .0)
-scan-back (font n) r h k = one-scan font n r (position-near n (and-left (isPosition n) true (h .0))) (h .0)
-scan-back (size n) r h k = one-scan size n r (positive-near (n ∷ []) (h .0)) (h .0)
-scan-back (colour c ns) r h k = judge (colour c ns) _ 0 _ _ _ _ (h .0) (coloured-back r colour c 1 ns (h .1) (component-near ns (h .0))) (omega arith)
+scan-back (index n) r h k = one-scan index n r (h .0) (h .0) refl
+scan-back (to across n) r h k = one-scan (to across) n r (h .0) (h .0) refl
+scan-back (to down n) r h k = one-scan (to down) n r (h .0) (h .0) refl
+scan-back (by across n) r h k = one-scan (by across) n r (h .0) (h .0) refl
+scan-back (by down n) r h k = one-scan (by down) n r (h .0) (h .0) refl
+scan-back (page n) r h k = one-scan page n r (h .0) (h .0) refl
+scan-back (font n) r h k = one-scan font n r (position-near n (and-left (isPosition n) true (h .0))) (h .0) refl
+scan-back (size n) r h k = one-scan size n r (positive-near (n ∷ []) (h .0)) (h .0) refl
+scan-back (colour c ns) r h k = judge (colour c ns) _ 0 _ _ _ _ (h .0) refl (coloured-back r colour c 1 ns (h .1) (component-near ns (h .0))) (omega arith)
 scan-back break r h k = break-back r
 scan-back space r h k = refl
 scan-back (draw s ns) r h k = draw-back s ns r h
-scan-back (device n) r h k = name-scan device n r (h .1) (h .0)
+scan-back (device n) r h k = name-scan device n r (h .1) (h .0) (h .2)
 scan-back (resolution n m v) r h k =
-    judge-closed (resolution n m v) _ 0 _ _ r _ (h .0) (resolution-back r n m v (positive-near (n ∷ m ∷ v ∷ []) (h .0))) (omega arith)
-scan-back init r h k = judge-closed init [] 0 3 3 r _ refl refl refl
-scan-back (file n) r h k = name-scan file n r (h .1) (h .0)
+    judge-closed (resolution n m v) _ 0 _ _ r _ (h .0) refl (resolution-back r n m v (positive-near (n ∷ m ∷ v ∷ []) (h .0))) (omega arith)
+scan-back init r h k = judge-closed init [] 0 3 3 r _ refl refl refl refl
+scan-back (file n) r h k = name-scan file n r (h .1) (h .0) (h .2)
 scan-back (mount n m) r h k =
-    judge-closed (mount n m) _ (nameAt (mount n m)) _ _ r _ (h .0)
+    judge-closed (mount n m) _ (nameAt (mount n m)) _ _ r _ (h .0) (h .2)
     (mount-back r n m (position-near n (and-left (isPosition n) (isName m && true) (h .0))) (h .1))
     (simp length-append (omega arith))
 scan-back (plain c ns) r h k = plain-back c ns r h
 scan-back (raw t) r h k = text-back t r h k
-scan-back stop r h k = judge-closed stop [] 0 3 3 r _ refl refl refl
+scan-back stop r h k = judge-closed stop [] 0 3 3 r _ refl refl refl refl

@@ -11,7 +11,7 @@ use borrow.Author.Tests.{not-true, not-false, eqb-true, ne-eqb, le-leb}
 use Rattle.rules.specs.Bytes.{is, isSpace, isWhite, isNotWhite, isNotNewline, isDigit, span, spacer, unspaced, origin, near, nums, integers, perhapsInteger}
 use Rattle.rules.specs.Act.{Act, glyph, Cmd, just, word, pair}
 use Rattle.rules.specs.Letters.{draft, withOne, named, withDummy, secondDigit}
-use Rattle.rules.specs.Scan.{limits, letter, got, judged, command}
+use Rattle.rules.specs.Scan.{limits, nameOf, letter, got, cleared, judged, command}
 use Rattle.rules.specs.House.{signedDecimal}
 use Rattle.laws.proofs.Cases.{not-or-left, All, Stops, span-all}
 use Rattle.laws.proofs.Good.{allTrue}
@@ -43,9 +43,9 @@ module _ (k : List ℕ) (n : ℕ) (t : List ℕ) (h : All isSpace k) (g : near n
       let z : Stops isSpace (signedDecimal n ++ t) = present-stops (signedDecimal n ++ t) (signed-present n t g) in
       rw (spaces k (signedDecimal n ++ t) h z, drop-append-seam k (signedDecimal n ++ t), signed-back n g t s, drop-append-seam (signedDecimal n) t)
 
-  pub one-number : (f : ℕ → Act) → allTrue (limits (f n)) ≡ true
+  pub one-number : (f : ℕ → Act) → allTrue (limits (f n)) ≡ true → nameOf (f n) ≡ []
       → judged (withOne f (integers 1 1 (k ++ (signedDecimal n ++ t)))) ≡ got (just (f n)) 0 (1 + length k + length (signedDecimal n))
-  one-number f l = rw (one-integer, moved-numOf n, append-nil (limits (f n)), outside-none (limits (f n)) ((1 + length k) ∷ []) l)
+  one-number f l e = rw (one-integer, moved-numOf n, append-nil (limits (f n)), outside-none (limits (f n)) ((1 + length k) ∷ []) l, e)
 
 -- a string behind a spacer
 named-form : (f : List ℕ → Cmd) (ks : List ℕ) (j : ℕ) (k : List ℕ) (b : ℕ) (bs t : List ℕ) → All isSpace k → All isNotWhite (b ∷ bs) → Stops isNotNewline t
@@ -67,21 +67,21 @@ unfolding perhapsInteger span
 no-dummy c ks a l [] h = refl
 no-dummy c ks a l (b ∷ t) h = rw (newline b h)
 
--- ---- glyphs and words
+-- ---- glyphs and words, up to the test of their bytes
 
-pub by-c : (k : List ℕ) (b : ℕ) (t : List ℕ) → All isSpace k → isNotWhite b ≡ true → command 99 (k ++ b ∷ t) ≡ got (just (glyph (b ∷ []))) (1 + length k) (2 + length k)
+pub by-c : (k : List ℕ) (b : ℕ) (t : List ℕ) → All isSpace k → isNotWhite b ≡ true → command 99 (k ++ b ∷ t) ≡ cleared (just (glyph (b ∷ []))) (1 + length k) (2 + length k)
 unfolding letter
 by-c k b t h w =
     rw (spaces k (b ∷ t) h (not-space b w), drop-append-seam k (b ∷ t), not-true (isWhite b) w)
-    (ap (got (just (glyph (b ∷ []))) (1 + length k)) (omega arith))
+    (ap (cleared (just (glyph (b ∷ []))) (1 + length k)) (omega arith))
 
 pub by-C : (k : List ℕ) (b : ℕ) (n t : List ℕ) → All isSpace k → All isNotWhite (b ∷ n) → length (b ∷ n) ≤ 64 → Stops isNotNewline t
-    → command 67 (k ++ (b ∷ n ++ t)) ≡ got (just (glyph (b ∷ n))) (1 + length k) (1 + length k + length (b ∷ n))
+    → command 67 (k ++ (b ∷ n ++ t)) ≡ cleared (just (glyph (b ∷ n))) (1 + length k) (1 + length k + length (b ∷ n))
 unfolding letter
 by-C k b n t h g l e = rw (named-form (λ m. just (glyph m)) [] 1 k b n t h g e, le-leb (length (b ∷ n)) 64 l)
 
 pub by-t : (k : List ℕ) (b : ℕ) (bs t : List ℕ) → All isSpace k → All isNotWhite (b ∷ bs) → Stops isNotNewline t
-    → command 116 (k ++ (b ∷ bs ++ t)) ≡ got (word origin (b ∷ bs)) (1 + length k) (1 + length k + length (b ∷ bs))
+    → command 116 (k ++ (b ∷ bs ++ t)) ≡ cleared (word origin (b ∷ bs)) (1 + length k) (1 + length k + length (b ∷ bs))
 unfolding letter
 by-t k b bs t h g e =
     rw (
@@ -91,7 +91,7 @@ by-t k b bs t h g e =
 
 pub by-u : (k : List ℕ) (n c : ℕ) (l : List ℕ) (b : ℕ) (bs t : List ℕ) → All isSpace k → near n ≡ true → All isSpace (c ∷ l) → isDigit c ≡ false → All isNotWhite (b ∷ bs) → Stops isNotNewline t
     → command 117 (k ++ (signedDecimal n ++ (c ∷ l ++ (b ∷ bs ++ t))))
-    ≡ got (word n (b ∷ bs)) (1 + length k + length (signedDecimal n) + length (c ∷ l)) (1 + length k + length (signedDecimal n) + length (c ∷ l) + length (b ∷ bs))
+    ≡ cleared (word n (b ∷ bs)) (1 + length k + length (signedDecimal n) + length (c ∷ l)) (1 + length k + length (signedDecimal n) + length (c ∷ l) + length (b ∷ bs))
 unfolding letter
 by-u k n c l b bs t h z m s g e =
     let j : ℕ = 1 + length k + length (signedDecimal n) in
@@ -131,7 +131,7 @@ digit-letter b r l h =
     )
 
 pub by-digits : (d e : ℕ) (k l : List ℕ) (b : ℕ) (t : List ℕ) → d ≤ 9 → e ≤ 9 → All isSpace k → All isSpace l → isNotWhite b ≡ true
-    → command (48 + d) (k ++ (48 + e) ∷ (l ++ b ∷ t)) ≡ got (pair (origin + (10 * d + e)) b) (2 + length k + length l) (3 + length k + length l)
+    → command (48 + d) (k ++ (48 + e) ∷ (l ++ b ∷ t)) ≡ cleared (pair (origin + (10 * d + e)) b) (2 + length k + length l) (3 + length k + length l)
 by-digits d e k l b t p q h m w =
     let s : isSpace (48 + e) ≡ false = rw (ne-eqb (48 + e) 32 (λ x. omega arith), ne-eqb (48 + e) 9 (λ x. omega arith)) in
     rw (
@@ -143,7 +143,7 @@ by-digits d e k l b t p q h m w =
       drop-append-seam l (b ∷ t),
       not-true (isWhite b) w,
     )
-    (λ i. got (pair (origin + value i) b) (name i) (len i))
+    (λ i. cleared (pair (origin + value i) b) (name i) (len i))
   where
     value : (48 + d - 48) * 10 + (48 + e - 48) ≡ 10 * d + e
     value = omega arith

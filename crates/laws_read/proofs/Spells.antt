@@ -7,7 +7,7 @@ use mathlib.Core.Option.{Option, none, some}
 use mathlib.Core.Path.{_≡_, refl}
 use lib.Dec.{leb, ltb, eqb}
 use borrow.Author.Tests.{le-leb, ltb-true}
-use Rattle.rules.specs.Bytes.{if_then_else_, isNotWhite, origin, most, near}
+use Rattle.rules.specs.Bytes.{if_then_else_, isNotWhite, isClear, origin, most, near}
 use Rattle.rules.specs.Act.{Axis, across, down, Act, glyph, index, to, by, page, font, size, colour, break, space, draw, device, resolution, init, file, mount, plain, raw, stop, Cmd, just, word, pair}
 use Rattle.rules.specs.Drawing.{Way, wayOf}
 use Rattle.rules.specs.Scan.{limits, Cmds, done, wrong, next, bare}
@@ -15,6 +15,7 @@ use Rattle.rules.specs.Widths.{Widths, Font, widthOf}
 use Rattle.rules.specs.State.{Spot, corner, get, put, fitsAll, plusAll, mayGo, spotAfter, filled, fits, plus, withFont, recorded, indexed, mountedAt, isMounted, Env, start, setSpot, setGap, setFont, setFillPaint, Glyph, Item, itemAt, Step, refused, went, before, andThen, onPage, due, effect, act, run, Acts, noActs, these, perform, ready, byteActs, wordActs, wordIn, acts}
 use Rattle.rules.specs.House.{Manner, anchored, floating, turning, moving, manner, moves, kept, pen, onward, house, playOn, played}
 use Rattle.laws.proofs.Cases.{All, on, and-left, and-right}
+use Rattle.laws.proofs.Clear.{clear-one, clear-rest}
 use Rattle.laws.proofs.Good.{allTrue, Name, Shaped, Good, AllActs, AllGood, GoodCmd, AllCmds}
 
 -- ---- every place is within the limit
@@ -128,22 +129,22 @@ fair : (a : Act) → Good a → Fair a
 unfolding act
 fair a g = (written (manner a) (Good a) g, λ e h. if-near (due e a) (effect e a) 7 (λ k. effect-near a g e h))
 
-byte-good : (b : ℕ) → isNotWhite b ≡ true → Good (glyph (b ∷ []))
-byte-good b h = (refl, record { whole = (h, tt); some = omega arith })
+byte-good : (b : ℕ) → isNotWhite b ≡ true → isClear (b ∷ []) ≡ true → Good (glyph (b ∷ []))
+byte-good b h k = (refl, record { whole = (h, tt); some = omega arith }, k)
 
 abbrev FairActs : Acts → Type 0
 FairActs (noActs n) = Unit {0}
 FairActs (these xs) = AllFair xs
 
-word-fair : (fs : List Font) (name : List ℕ) (far : ℕ → ℕ) (bs : List ℕ) → All isNotWhite bs → FairActs (wordActs fs name far bs)
+word-fair : (fs : List Font) (name : List ℕ) (far : ℕ → ℕ) (bs : List ℕ) → All isNotWhite bs → isClear bs ≡ true → FairActs (wordActs fs name far bs)
 unfolding wordActs
-word-fair fs name far [] h = tt
-word-fair fs name far (b ∷ bs) h = go (widthOf name b fs) (wordActs fs name far bs) (word-fair fs name far bs (h .1))
+word-fair fs name far [] h c = tt
+word-fair fs name far (b ∷ bs) h c = go (widthOf name b fs) (wordActs fs name far bs) (word-fair fs name far bs (h .1) (clear-rest b bs c))
   where
     go : (o : Option ℕ) (x : Acts) → FairActs x → FairActs (byteActs b far o x)
     go none x k = tt
     go (some w) (noActs n) k = tt
-    go (some w) (these xs) k = (fair (glyph (b ∷ [])) (byte-good b (h .0)), ((tt, by-steady across (far w)), k))
+    go (some w) (these xs) k = (fair (glyph (b ∷ [])) (byte-good b (h .0) (clear-one b bs c)), ((tt, by-steady across (far w)), k))
 
 ready-fair : (e : Env) (go : ℕ → Acts) (o : Option ℕ) → ((f : ℕ) → FairActs (go f)) → FairActs (ready e go o)
 ready-fair e go none h = on (onPage e) (λ k. rw k tt) (λ k. rw k tt)
@@ -165,8 +166,8 @@ run-near (a ∷ xs) e f h = go (act e a) (f .0 .1 e h) (λ d k. run-near xs d (f
 module _ (w : Widths) where
   acts-fair : (e : Env) (c : Cmd) → GoodCmd c → FairActs (acts w e c)
   acts-fair e (just a) g = (fair a g, tt)
-  acts-fair e (word n bs) g = ready-fair e (wordIn w e n bs) (e .font) (λ f. word-fair (w .fonts) (mountedAt f (e .mounts)) _ bs (g .1 .whole))
-  acts-fair e (pair n b) g = ready-fair e (λ f. these (by across n ∷ glyph (b ∷ []) ∷ [])) (e .font) (λ f. ((tt, by-steady across n), (fair (glyph (b ∷ [])) (byte-good b (g .1 .0)), tt)))
+  acts-fair e (word n bs) g = ready-fair e (wordIn w e n bs) (e .font) (λ f. word-fair (w .fonts) (mountedAt f (e .mounts)) _ bs (g .1 .whole) (g .2))
+  acts-fair e (pair n b) g = ready-fair e (λ f. these (by across n ∷ glyph (b ∷ []) ∷ [])) (e .font) (λ f. ((tt, by-steady across n), (fair (glyph (b ∷ [])) (byte-good b (g .1 .0) (g .2)), tt)))
 
   -- running them keeps every place within the limit
   pub perform-near : (e : Env) (c : Cmd) → GoodCmd c → Near (e .spot) → NearAfter (perform e (acts w e c))
@@ -219,4 +220,4 @@ module _ (P : Act → Type 0) (t : (x : Axis) (n : ℕ) → near n ≡ true → 
       go (went d gs is) k more = more d (pen (manner a) p (d .spot)) k
 
 pub house-good : (xs : List Act) (e : Env) (p : Spot) → AllFair xs → Near (e .spot) → AllGood (house e p xs)
-house-good = house-all Good (λ x n h. (rw h, tt)) (λ a g. g)
+house-good = house-all Good (λ x n h. (rw h, tt, refl)) (λ a g. g)

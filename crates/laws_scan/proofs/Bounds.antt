@@ -13,8 +13,9 @@ use Rattle.rules.specs.Act.{across, down, Scheme, Shape, colourFill, Plain, pau
 use Rattle.rules.specs.Letters.{Draft, fault, draft, withOne, withAll, ignoring, oneByte, named, numberNamed, whiteNext, followedByWhite, withDummy, secondDigit, schemeOf, components, inScheme, coloured}
 use Rattle.rules.specs.Drawing.{lineEnds, closed, shapeOf, Form, exactly, dummied, paired, formOf, isPaired, inPairs, dummyBehind, drawn, inShape, drawing}
 use Rattle.rules.specs.Controls.{alone, resolutionOf, plainCount, plainly, rawText, rawLength, rawly, control, controlWord}
-use Rattle.rules.specs.Scan.{letter, cmdLimits, isSmall, outside, judgedBy, judged, command, Scan, got, bad}
+use Rattle.rules.specs.Scan.{letter, nameOf, nameIn, cmdLimits, isSmall, outside, judgedBy, judged, command, Scan, got, bad}
 use Rattle.laws.proofs.Cases.{if-both, if-on, not-zero, length-span}
+use Rattle.laws.proofs.Clear.{cleared-both}
 
 pub span-le : (p : ℕ → Bool) (r : List ℕ) → span p r ≤ length r
 unfolding span
@@ -139,61 +140,34 @@ pub record At (s : List ℕ) (k : ℕ) (r : List ℕ) : Type 0 where
 abbrev pub Stands : List ℕ → ℕ → List ℕ → Type 0
 Stands n a s = take (length n) (drop a s) ≡ n
 
--- what stands at a command's name: of a glyph, a word, and a control
-abbrev pub actText : Act → List ℕ
-actText (glyph n) = n
-actText (index n) = []
-actText (to x n) = []
-actText (by x n) = []
-actText (page n) = []
-actText (font n) = []
-actText (size n) = []
-actText (colour c ns) = []
-actText break = []
-actText space = []
-actText (draw s ns) = []
-actText (device n) = n
-actText (resolution n h v) = []
-actText init = []
-actText (file n) = n
-actText (mount n m) = m
-actText (plain c ns) = []
-actText (raw t) = []
-actText stop = []
-
-abbrev pub textOf : Cmd → List ℕ
-textOf (just a) = actText a
-textOf (word n bs) = bs
-textOf (pair n b) = b ∷ []
-
 -- the names of its glyphs, one behind the other
-abbrev pub actName : Act → List ℕ
-actName (glyph n) = n
-actName (index n) = []
-actName (to x n) = []
-actName (by x n) = []
-actName (page n) = []
-actName (font n) = []
-actName (size n) = []
-actName (colour c ns) = []
-actName break = []
-actName space = []
-actName (draw s ns) = []
-actName (device n) = []
-actName (resolution n h v) = []
-actName init = []
-actName (file n) = []
-actName (mount n m) = []
-actName (plain c ns) = []
-actName (raw t) = []
-actName stop = []
+abbrev pub glyphsOf : Act → List ℕ
+glyphsOf (glyph n) = n
+glyphsOf (index n) = []
+glyphsOf (to x n) = []
+glyphsOf (by x n) = []
+glyphsOf (page n) = []
+glyphsOf (font n) = []
+glyphsOf (size n) = []
+glyphsOf (colour c ns) = []
+glyphsOf break = []
+glyphsOf space = []
+glyphsOf (draw s ns) = []
+glyphsOf (device n) = []
+glyphsOf (resolution n h v) = []
+glyphsOf init = []
+glyphsOf (file n) = []
+glyphsOf (mount n m) = []
+glyphsOf (plain c ns) = []
+glyphsOf (raw t) = []
+glyphsOf stop = []
 
-abbrev pub nameOf : Cmd → List ℕ
-nameOf (just a) = actName a
-nameOf (word n bs) = bs
-nameOf (pair n b) = b ∷ []
+abbrev pub glyphsIn : Cmd → List ℕ
+glyphsIn (just a) = glyphsOf a
+glyphsIn (word n bs) = bs
+glyphsIn (pair n b) = b ∷ []
 
-pub name-stands : (c : Cmd) (a : ℕ) (s : List ℕ) → Stands (textOf c) a s → Stands (nameOf c) a s
+pub name-stands : (c : Cmd) (a : ℕ) (s : List ℕ) → Stands (nameIn c) a s → Stands (glyphsIn c) a s
 name-stands (just (glyph n)) a s h = h
 name-stands (just (index n)) a s h = refl
 name-stands (just (to x n)) a s h = refl
@@ -220,8 +194,8 @@ name-stands (pair n b) a s h = h
 -- begins within it.
 pub record Lies (s : List ℕ) (c : Cmd) (ks : List ℕ) (a l : ℕ) (t : List ℕ) : Type 0 where
   pub end : At s l t
-  pub name : a + length (textOf c) ≤ l
-  pub stands : Stands (textOf c) a s
+  pub name : a + length (nameIn c) ≤ l
+  pub stands : Stands (nameIn c) a s
   pub places : Places l ks
 
 abbrev pub DraftIn : List ℕ → Draft → Type 0
@@ -276,15 +250,15 @@ module _ (s : List ℕ) where
   -- in what follows r stands at the distance k
 
   -- an act without a name, up to l
-  nameless : (a : Act) (ks : List ℕ) (l : ℕ) (t : List ℕ) → actText a ≡ [] → At s l t → Places l ks → Lies s (just a) ks 0 l t
-  nameless a ks l t e h p = record { end = h; name = let z : length (actText a) ≡ 0 = ap length e in omega arith; stands = rw e; places = p }
+  nameless : (a : Act) (ks : List ℕ) (l : ℕ) (t : List ℕ) → nameOf a ≡ [] → At s l t → Places l ks → Lies s (just a) ks 0 l t
+  nameless a ks l t e h p = record { end = h; name = let z : length (nameOf a) ≡ 0 = ap length e in omega arith; stands = rw e; places = p }
 
-  one-in : (f : ℕ → Act) (k : ℕ) (r : List ℕ) (x : Nums) → ((n : ℕ) → actText (f n) ≡ []) → At s k r → NumsIn k r x → DraftIn s (withOne f x)
+  one-in : (f : ℕ → Act) (k : ℕ) (r : List ℕ) (x : Nums) → ((n : ℕ) → nameOf (f n) ≡ []) → At s k r → NumsIn k r x → DraftIn s (withOne f x)
   one-in f k r short e h g = tt
   one-in f k r (nums [] ks l t) e h g = tt
   one-in f k r (nums (n ∷ ns) ks l t) e h g = nameless (f (moved n)) ks l t (e (moved n)) (at-on k r l t h (g .0)) (g .1)
 
-  all-in : (f : List ℕ → Act) (k : ℕ) (r : List ℕ) (x : Nums) → ((ns : List ℕ) → actText (f ns) ≡ []) → At s k r → NumsIn k r x → DraftIn s (withAll f x)
+  all-in : (f : List ℕ → Act) (k : ℕ) (r : List ℕ) (x : Nums) → ((ns : List ℕ) → nameOf (f ns) ≡ []) → At s k r → NumsIn k r x → DraftIn s (withAll f x)
   all-in f k r short e h g = tt
   all-in f k r (nums ns ks l t) e h g = nameless (f (map moved ns)) ks l t (e (map moved ns)) (at-on k r l t h (g .0)) (g .1)
 
@@ -296,7 +270,7 @@ module _ (s : List ℕ) where
   resolution-in k r (nums (n ∷ m ∷ v ∷ more) ks l t) h g = nameless (resolution (moved n) (moved m) (moved v)) ks l t refl (at-on k r l t h (g .0)) (g .1)
 
   -- the name, if a record has it, is the string
-  named-in : (f : List ℕ → Cmd) (ks : List ℕ) (k : ℕ) (r : List ℕ) → ((n : List ℕ) → textOf (f n) ≡ n) → At s k r → Places k ks
+  named-in : (f : List ℕ → Cmd) (ks : List ℕ) (k : ℕ) (r : List ℕ) → ((n : List ℕ) → nameIn (f n) ≡ n) → At s k r → Places k ks
       → DraftIn s (named f ks k r)
   unfolding named
   named-in f ks k r e h g =
@@ -310,13 +284,13 @@ module _ (s : List ℕ) where
         places = places-append (a + n) ks (a ∷ []) (places-on k (a + n) ks (omega arith) g) (omega arith, tt);
       })
 
-  numberNamed-in : (f : ℕ → List ℕ → Cmd) (k : ℕ) (r : List ℕ) (x : Nums) → ((m : ℕ) (n : List ℕ) → textOf (f m n) ≡ n) → At s k r → NumsIn k r x
+  numberNamed-in : (f : ℕ → List ℕ → Cmd) (k : ℕ) (r : List ℕ) (x : Nums) → ((m : ℕ) (n : List ℕ) → nameIn (f m n) ≡ n) → At s k r → NumsIn k r x
       → DraftIn s (numberNamed f x)
   numberNamed-in f k r short e h g = tt
   numberNamed-in f k r (nums [] ks l t) e h g = tt
   numberNamed-in f k r (nums (n ∷ ns) ks l t) e h g = named-in (f (moved n)) ks l t (e (moved n)) (at-on k r l t h (g .0)) (g .1)
 
-  byte-in : (f : ℕ → Cmd) (k : ℕ) (r : List ℕ) → ((b : ℕ) → textOf (f b) ≡ b ∷ []) → At s k r → DraftIn s (oneByte f k r)
+  byte-in : (f : ℕ → Cmd) (k : ℕ) (r : List ℕ) → ((b : ℕ) → nameIn (f b) ≡ b ∷ []) → At s k r → DraftIn s (oneByte f k r)
   byte-in f k [] e h = tt
   byte-in f k (b ∷ r) e h =
       if-both (DraftIn s) (isWhite b) (fault 4) _ tt (record {
@@ -332,7 +306,7 @@ module _ (s : List ℕ) where
       if-both (DraftIn s) (isDigit c) _ (fault 4)
       (byte-in (pair (origin + ((b - 48) * 10 + (c - 48)))) (k + 1 + spacer r) (unspaced r) (λ x. refl) (at-unspaced (k + 1) r (at-next k c r h))) tt
 
-  coloured-in : (f : Scheme → List ℕ → Act) (k : ℕ) (r : List ℕ) → ((c : Scheme) (ns : List ℕ) → actText (f c ns) ≡ []) → At s k r → DraftIn s (coloured f k r)
+  coloured-in : (f : Scheme → List ℕ → Act) (k : ℕ) (r : List ℕ) → ((c : Scheme) (ns : List ℕ) → nameOf (f c ns) ≡ []) → At s k r → DraftIn s (coloured f k r)
   coloured-in f k [] e h = tt
   coloured-in f k (b ∷ r) e h = go (schemeOf b)
     where
@@ -360,7 +334,7 @@ module _ (s : List ℕ) where
   raw-in k r h = nameless (raw (rawText r)) (k ∷ []) (k + rawLength r) (drop (rawLength r) r) refl (at-by k r (rawLength r) h (raw-le r)) (omega arith, tt)
 
   -- controls with a name, and with numbers alone
-  name-in : (f : List ℕ → Act) (k : ℕ) (r : List ℕ) → ((n : List ℕ) → actText (f n) ≡ n) → At s k r → DraftIn s (closed (named (λ n. just (f n)) [] k r))
+  name-in : (f : List ℕ → Act) (k : ℕ) (r : List ℕ) → ((n : List ℕ) → nameOf (f n) ≡ n) → At s k r → DraftIn s (closed (named (λ n. just (f n)) [] k r))
   name-in f k r e h = closed-in (named (λ n. just (f n)) [] k r) (named-in (λ n. just (f n)) [] k r e h tt)
 
   plain-in : (c : Plain) (k : ℕ) (r : List ℕ) → At s k r → DraftIn s (closed (plainly c k r))
@@ -396,7 +370,7 @@ letter-in b r =
     let P : Draft → Type 0 = DraftIn s in
     let h : At s 1 r = at-first b r in
     let g : At s (1 + spacer r) (unspaced r) = at-unspaced s 1 r h in
-    let one : (f : ℕ → Act) → ((n : ℕ) → actText (f n) ≡ []) → P (withOne f (integers 1 1 r)) = λ f e. one-in s f 1 r (integers 1 1 r) e h (integers-in 1 1 r) in
+    let one : (f : ℕ → Act) → ((n : ℕ) → nameOf (f n) ≡ []) → P (withOne f (integers 1 1 r)) = λ f e. one-in s f 1 r (integers 1 1 r) e h (integers-in 1 1 r) in
     if-both P (is "c" b) _ _ (byte-in s (λ x. just (glyph (x ∷ []))) (1 + spacer r) (unspaced r) (λ x. refl) g)
     (if-both P (is "C" b) _ _ (named-in s (λ n. just (glyph n)) [] 1 r (λ n. refl) h tt)
     (if-both P (is "N" b) _ _ (one index (λ n. refl))
@@ -420,8 +394,8 @@ letter-in b r =
 pub record GotIn (s : List ℕ) (c : Cmd) (a l : ℕ) : Type 0 where
   pub some : 1 ≤ l
   pub most : l ≤ length s
-  pub name : a + length (textOf c) ≤ l
-  pub stands : Stands (textOf c) a s
+  pub name : a + length (nameIn c) ≤ l
+  pub stands : Stands (nameIn c) a s
 
 -- the place of a refusal is within the bytes
 abbrev pub Within : List ℕ → Scan → Type 0
@@ -444,7 +418,7 @@ judged-in s (fault n) h = omega arith
 judged-in s (draft c ds ks a l t) h = go (outside (cmdLimits c ++ map isSmall ds) ks) (outside-in l (cmdLimits c ++ map isSmall ds) ks (h .places))
   where
     go : (o : Option ℕ) → UpTo l o → Within s (judgedBy c a l o)
-    go none g = record { some = h .end .some; most = h .end .most; name = h .name; stands = h .stands }
+    go none g = cleared-both (Within s) c a l (record { some = h .end .some; most = h .end .most; name = h .name; stands = h .stands }) (omega arith)
     go (some k) g = omega (arith, h .end .most)
 
 pub command-in : (b : ℕ) (r : List ℕ) → Within (b ∷ r) (command b r)
@@ -463,7 +437,7 @@ judged-points (fault n) = λ h. refl
 judged-points (draft c ds ks a l t) = go (outside (cmdLimits c ++ map isSmall ds) ks)
   where
     go : (o : Option ℕ) → Pointing (judgedBy c a l o)
-    go none = tt
+    go none = cleared-both Pointing c a l tt (λ h. refl)
     go (some k) = λ h. absurd (h refl)
 
 pub bad-place : (b : ℕ) (r : List ℕ) (n k : ℕ) → command b r ≡ bad n k → (n ≡ 6 → ⊥) → k ≡ 0

@@ -8,12 +8,12 @@ use mathlib.Core.Path.{_≡_, refl, ap, _∙_}
 use borrow.Author.Tests.{leb-true}
 use lib.Dec.{leb, eqb}
 use lib.ListN.{length, take, drop, length-map}
-use Rattle.rules.specs.Bytes.{is, isSpace, isWhite, isNotWhite, isDigit, spacer, unspaced, string, oneLine, Num, Int, noInt, int, integer, origin, moved, Nums, short, nums, withNum, afterInt, integers, manyIntegers, perhapsInteger}
+use Rattle.rules.specs.Bytes.{is, isSpace, isWhite, isNotWhite, isDigit, isClear, spacer, unspaced, string, oneLine, Num, Int, noInt, int, integer, origin, moved, Nums, short, nums, withNum, afterInt, integers, manyIntegers, perhapsInteger}
 use Rattle.rules.specs.Act.{across, down, Scheme, Shape, colourFill, Plain, pause, trailer, height, slant, underline, Act, glyph, index, to, by, page, font, size, colour, break, draw, device, init, file, mount, plain, stop, Cmd, just, word, pair}
 use Rattle.rules.specs.Letters.{Draft, fault, draft, withOne, withAll, ignoring, oneByte, named, numberNamed, followedByWhite, withDummy, secondDigit, schemeOf, components, inScheme, coloured}
 use Rattle.rules.specs.Drawing.{lineEnds, closed, shapeOf, Form, exactly, dummied, paired, formOf, isPaired, inPairs, dummyBehind, drawn, inShape, drawing}
 use Rattle.rules.specs.Controls.{alone, resolutionOf, plainCount, plainly, rawText, control, controlWord}
-use Rattle.rules.specs.Scan.{letter, cmdLimits, isSmall, outside, judgedBy, judged, command, Scan, got, bad, Cmds, oneCommand, commands}
+use Rattle.rules.specs.Scan.{letter, cmdLimits, isSmall, nameIn, outside, judgedBy, judged, command, Scan, got, bad, Cmds, oneCommand, commands}
 use Rattle.laws.proofs.Cases.{if-on, and-right, on, if-both, not-zero, Stops, all-span, length-span, drop-span}
 use Rattle.laws.proofs.Good.{allTrue, Name, Count, Shaped, ShapedCmd, GoodCmd, AllCmds}
 
@@ -229,7 +229,10 @@ judged-good (fault n) h = h
 judged-good (draft c ds ks a l t) h = go (outside (cmdLimits c ++ map isSmall ds) ks) refl
   where
     go : (o : Option ℕ) → outside (cmdLimits c ++ map isSmall ds) ks ≡ o → GoodScan (judgedBy c a l o)
-    go none e = (allTrue-left (cmdLimits c) (map isSmall ds) (none-outside (cmdLimits c ++ map isSmall ds) ks e), h)
+    go none e =
+        if-on GoodScan (isClear (nameIn c)) (got c a l) (bad 16 0)
+        (λ k. (allTrue-left (cmdLimits c) (map isSmall ds) (none-outside (cmdLimits c ++ map isSmall ds) ks e), h, k))
+        (λ k. omega arith)
     go (some k) e = omega arith
 
 pub command-good : (b : ℕ) (r : List ℕ) → GoodScan (command b r)

@@ -15,6 +15,7 @@ use Rattle.rules.specs.Letters.{Draft, fault, draft, withAll, ignoring, named, 
 use Rattle.rules.specs.Drawing.{lineEnds, closed, dummyBehind, drawing}
 use Rattle.rules.specs.Scan.{letter, cmdLimits, isSmall, outside, judgedBy, judged, got, command}
 use Rattle.laws.proofs.Cases.{on, no, if-both, and-left, and-right, All, span-all, all-span, length-span, take-front, drop-front}
+use Rattle.laws.proofs.Clear.{cleared-got}
 use Rattle.laws.proofs.Good.{allTrue}
 use Rattle.laws.proofs.Limits.{near-bounds}
 use Rattle.laws_scan.specs.Texts.{Written, Spacer, Integers, no-more, one-more, Dummy, WhiteOrEnd, IgnoredInLimit}
@@ -125,9 +126,10 @@ judged-got c ds ks i l t x name len = go (outside (cmdLimits c ++ map isSmall ds
     go (some k) f e = no (ap isGot e)
     go none f e =
         let all : allTrue (cmdLimits c ++ map isSmall ds) ≡ true = none-outside (cmdLimits c ++ map isSmall ds) ks f in
+        let g : got c i l ≡ got x name len = cleared-got c i l x name len e .1 in
         record {
-          same = ap (cmdIn c) e;
-          long = ap lengthIn e;
+          same = ap (cmdIn c) g;
+          long = ap lengthIn g;
           args = allTrue-left (cmdLimits c) (map isSmall ds) all;
           dummies = allTrue-right (cmdLimits c) (map isSmall ds) all;
         }

@@ -16,6 +16,7 @@ use Rattle.rules.specs.Drawing.{lineEnds, closed, drawing}
 use Rattle.rules.specs.Controls.{alone, resolutionOf, plainly, rawText, control, controlWord}
 use Rattle.rules.specs.Scan.{letter, cmdLimits, isSmall, outside, judgedBy, judged, command, Scan, got, bad}
 use Rattle.laws.proofs.Cases.{on, no, if-both, if-on, All, Stops, span-all, drop-front}
+use Rattle.laws.proofs.Clear.{cleared-got}
 use Rattle.laws_scan.specs.Texts.{Spacer, NoWhite, WhiteOrEnd, LineEnds, at-end, at-newline, at-comment, behind-space, behind-tab, endsItsLine, LineBreaks}
 use Rattle.laws_scan.proofs.Bounds.{DraftIn, letter-in}
 
@@ -199,14 +200,15 @@ drafted b r P (draft d ds ks i l t) c name len h p e = go (outside (cmdLimits d 
     go : (o : Option ℕ) → judgedBy d i l o ≡ got c name len → Drafted b r P c len
     go (some k) f = no (ap isGot f)
     go none f =
+        let e : got d i l ≡ got c name len = cleared-got d i l c name len f .1 in
         record {
           ignored = ds;
           places = ks;
           name = i;
           long = l;
           rest = t;
-          here = h .end .rest ∙ behind-first b r l (h .end .some) ∙ ap (λ (x : Scan). drop (lengthIn x - 1) r) f;
-          holds = subst (λ (q : Cmd). P (draft q ds ks i l t)) (ap (cmdIn d) f) p;
+          here = h .end .rest ∙ behind-first b r l (h .end .some) ∙ ap (λ (x : Scan). drop (lengthIn x - 1) r) e;
+          holds = subst (λ (q : Cmd). P (draft q ds ks i l t)) (ap (cmdIn d) e) p;
         }
 
 -- ---- none, though it is due

@@ -18,7 +18,7 @@ use Rattle.rules.specs.State.{Env, start, Glyph, Item, Step, refused, went, bef
 use Rattle.rules.specs.Record.{GlyphRow, ItemRow, namePlace, glyphRows, itemRows, Answer, refuse, answer, afterRows, goOn, follow}
 use Rattle.rules.specs.Answers.{streamMost, isOver, readWith, read}
 use Rattle.laws.proofs.Cases.{if-both}
-use Rattle.laws_scan.proofs.Bounds.{Stands, actName, nameOf, name-stands, Within, command-in}
+use Rattle.laws_scan.proofs.Bounds.{Stands, glyphsOf, glyphsIn, name-stands, Within, command-in}
 
 -- ---- the commands of a stream
 
@@ -26,7 +26,7 @@ use Rattle.laws_scan.proofs.Bounds.{Stands, actName, nameOf, name-stand
 abbrev pub AllStand : List ℕ → Cmds → Type 0
 AllStand s (done at) = Unit {0}
 AllStand s (wrong n at k) = Unit {0}
-AllStand s (next c at a l more) = Stands (nameOf c) a s × (at + l ≤ length s) × AllStand s more
+AllStand s (next c at a l more) = Stands (glyphsIn c) a s × (at + l ≤ length s) × AllStand s more
 
 one-stands : (s : List ℕ) (at b : ℕ) (r : List ℕ) (go : ℕ → Cmds) (x : Scan) → drop at s ≡ b ∷ r → ((k : ℕ) → AllStand s (go k)) → Within (b ∷ r) x
     → AllStand s (oneCommand at go x)
@@ -64,7 +64,7 @@ module _ (e : Env) where
   font-cats n go none h = tt
   font-cats n go (some f) h = if-both (Cats n) (ltb 0 (e .size)) (go f) (refused 8) (h f) tt
 
-  effect-cats : (a : Act) → Cats (actName a) (effect e a)
+  effect-cats : (a : Act) → Cats (glyphsOf a) (effect e a)
   unfolding cat
   effect-cats (glyph n) = font-cats n (recorded e n 0) (e .font) (λ f. append-nil n)
   effect-cats (index n) = font-cats [] (indexed e n) (e .font) (λ f. if-both (Cats []) (ltb n origin) _ _ refl refl)
@@ -86,30 +86,30 @@ module _ (e : Env) where
   effect-cats (raw t) = refl
   effect-cats stop = refl
 
-  pub act-cats : (a : Act) → Cats (actName a) (act e a)
+  pub act-cats : (a : Act) → Cats (glyphsOf a) (act e a)
   unfolding act
-  act-cats a = if-both (Cats (actName a)) (due e a) (effect e a) (refused 7) (effect-cats a) tt
+  act-cats a = if-both (Cats (glyphsOf a)) (due e a) (effect e a) (refused 7) (effect-cats a) tt
 
 unfoldable pub namesOf : List Act → List ℕ
 namesOf [] = []
-namesOf (a ∷ xs) = actName a ++ namesOf xs
+namesOf (a ∷ xs) = glyphsOf a ++ namesOf xs
 
 pub run-cats : (xs : List Act) (e : Env) → Cats (namesOf xs) (run e xs)
 unfolding run namesOf cat
 run-cats [] e = refl
 run-cats (a ∷ xs) e = go (act e a) (act-cats e a) (λ d. run-cats xs d)
   where
-    after : (gs : List Glyph) (is : List Item) (x : Step) → cat gs ≡ actName a → Cats (namesOf xs) x → Cats (actName a ++ namesOf xs) (before gs is x)
+    after : (gs : List Glyph) (is : List Item) (x : Step) → cat gs ≡ glyphsOf a → Cats (namesOf xs) x → Cats (glyphsOf a ++ namesOf xs) (before gs is x)
     after gs is (refused n) h k = tt
     after gs is (went d hs js) h k = cat-append gs hs ∙ rw (h, k)
 
-    go : (x : Step) → Cats (actName a) x → ((d : Env) → Cats (namesOf xs) (run d xs)) → Cats (actName a ++ namesOf xs) (andThen x (λ d. run d xs))
+    go : (x : Step) → Cats (glyphsOf a) x → ((d : Env) → Cats (namesOf xs) (run d xs)) → Cats (glyphsOf a ++ namesOf xs) (andThen x (λ d. run d xs))
     go (refused n) h f = tt
     go (went d gs is) h f = after gs is (run d xs) h (f d)
 
 abbrev NamedActs : Cmd → Acts → Type 0
 NamedActs c (noActs n) = Unit {0}
-NamedActs c (these xs) = namesOf xs ≡ nameOf c
+NamedActs c (these xs) = namesOf xs ≡ glyphsIn c
 
 word-named : (n : ℕ) (fs : List Font) (name : List ℕ) (far : ℕ → ℕ) (bs : List ℕ) → NamedActs (word n bs) (wordActs fs name far bs)
 unfolding wordActs namesOf
@@ -129,14 +129,14 @@ ready-named e c go (some f) h =
 module _ (w : Widths) where
   acts-named : (e : Env) (c : Cmd) → NamedActs c (acts w e c)
   unfolding namesOf
-  acts-named e (just a) = append-nil (actName a)
+  acts-named e (just a) = append-nil (glyphsOf a)
   acts-named e (word n bs) = ready-named e (word n bs) (wordIn w e n bs) (e .font) (λ f. word-named n (w .fonts) (mountedAt f (e .mounts)) _ bs)
   acts-named e (pair n b) = ready-named e (pair n b) _ (e .font) (λ f. refl)
 
-  pub step-cats : (e : Env) (c : Cmd) → Cats (nameOf c) (perform e (acts w e c))
+  pub step-cats : (e : Env) (c : Cmd) → Cats (glyphsIn c) (perform e (acts w e c))
   step-cats e c = go (acts w e c) (acts-named e c)
     where
-      go : (x : Acts) → NamedActs c x → Cats (nameOf c) (perform e x)
+      go : (x : Acts) → NamedActs c x → Cats (glyphsIn c) (perform e x)
       go (noActs n) h = tt
       go (these xs) h = subst (λ (n : List ℕ). Cats n (run e xs)) h (run-cats xs e)
 
@@ -222,7 +222,7 @@ module _ (w : Widths) (s : List ℕ) where
   follow-rows (wrong n at k) e h = if-both (RowsOf s) (stopped e) _ _ tt tt
   follow-rows (next c at a l more) e h = go (perform e (acts w e c)) (step-cats w e c) (λ d. follow-rows more d (h .2))
     where
-      go : (x : Step) → Cats (nameOf c) x → ((d : Env) → RowsOf s (follow w d more)) → RowsOf s (goOn at a l (λ d. follow w d more) x)
+      go : (x : Step) → Cats (glyphsIn c) x → ((d : Env) → RowsOf s (follow w d more)) → RowsOf s (goOn at a l (λ d. follow w d more) x)
       go (refused n) k f = tt
       go (went d gs xs) k f = after-rows (glyphRows a gs) (itemRows at l xs) (follow w d more) (rows-stand s gs a (rw k (h .0))) (items-in s xs at l (h .1)) (f d)
 

@@ -7,7 +7,7 @@ use lib.ListN.{length, take, drop}
 use borrow.Author.Needs.{needs}
 use borrow.Author.Tests.{lt-ltb, le-ltb, eq-eqb, ne-eqb}
 use Rattle.rules.specs.Bytes.{bytes, same}
-use Rattle.rules.specs.Widths.{isString}
+use Rattle.rules.specs.Widths.{isListName}
 use Rattle.query_line.specs.Kinds.{glyphKind, gapKind, kindOf}
 use Rattle.query_line.specs.declared.Kind.{Kind}
 use Rattle.query_line.specs.declared.Kind.the-variants.{Glyph, Gap, Wrong}
@@ -17,7 +17,7 @@ module _ (n : ℕ) (name : List ℕ) where
   pub glyph-many : 64 ≤ n → Wrong ≡ glyphKind n name
   glyph-many h = rw (le-ltb n 64 h)
 
-  module _ (t : Bool) (h : n < 64) (e : t ≡ isString name) where
+  module _ (t : Bool) (h : n < 64) (e : t ≡ isListName name) where
     pub glyph-yes : t ≡ true → Glyph ≡ glyphKind n name
     glyph-yes f = rw (lt-ltb n 64 h, ← e, f)
 

@@ -14,7 +14,7 @@ fn glyph_kind(name: &[u8], glyphs: usize) -> Kind
     ensures { λ r. ⌜ r ≡ glyphKind glyphs (now (name .entry)) ⌝ }
 {
     if glyphs < 64 {
-        if scan_lex::is_string(name) {
+        if scan_lex::is_list_name(name) {
             return Kind::Glyph;
         }
     }

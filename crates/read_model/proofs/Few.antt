@@ -8,11 +8,11 @@ use lib.Dec.{ltb, eqb}
 use lib.ListN.{length}
 use Rattle.rules.specs.Bytes.{if_then_else_, origin}
 use Rattle.rules.specs.Act.{Cmd, just, word, pair, Act, Shape, glyph, index, to, by, page, font, size, colour, break, space, draw, device, resolution, init, file, mount, plain, raw, stop, line, arc, circle, solidCircle, ellipse, solidEllipse, polygon, solidPolygon, spline, thickness, grayFill, colourFill}
+use Rattle.rules.specs.Scan.{nameIn}
 use Rattle.scan_command.specs.declared.Command.{Command}
 use Rattle.scan_command.specs.declared.Command.the-variants as C
 use Rattle.scan_command.specs.View.{actOf, cmdOf}
 use Rattle.laws.proofs.Cases.{if-both}
-use Rattle.laws_scan.proofs.Bounds.{textOf}
 use Rattle.read_model.specs.declared.Environment.{Environment}
 use Rattle.read_model.specs.declared.Emitted.{Emitted}
 use Rattle.read_model.specs.declared.Emitted.the-variants as E
@@ -73,7 +73,7 @@ module _ (s ws : List ℕ) (k : ℕ) (h : 1 ≤ k) where
       or-few (isSet e) _ e 8 (or-few (allWide n s ws block p) _ e 9
       (if-both Few (eqb (wordEnd n s ws (wordHere e u t n p block)) 0) _ _ (refusing-few e 10) (omega (arith, word-length n s ws (wordHere e u t n p block)), omega arith)))
 
-  asked-few : (u : ℕ) (e : Environment) (p q : ℕ) (c : Cmd) → length (textOf c) ≤ k → Few (wordAsked s ws u e (cmdOf p q c))
+  asked-few : (u : ℕ) (e : Environment) (p q : ℕ) (c : Cmd) → length (nameIn c) ≤ k → Few (wordAsked s ws u e (cmdOf p q c))
   asked-few u e p q (just a) l = act-few a
     where
       act-few : (a : Act) → Few (wordAsked s ws u e (actOf p q a))
@@ -110,7 +110,7 @@ module _ (s ws : List ℕ) (k : ℕ) (h : 1 ≤ k) where
   asked-few u e p q (word n bs) l = word-few e u n (p + length bs - p) p (blockNow ws e) (omega arith)
   asked-few u e p q (pair n b) l = refusing-few e 7
 
-  pub few : (u : ℕ) (e : Environment) (at p q : ℕ) (c : Cmd) → length (textOf c) ≤ k → Few (didAt s ws u e at (cmdOf p q c))
+  pub few : (u : ℕ) (e : Environment) (at p q : ℕ) (c : Cmd) → length (nameIn c) ≤ k → Few (didAt s ws u e at (cmdOf p q c))
   few u e at p q c l = did-few e at (askedMount ws (cmdOf p q c)) (wordAsked s ws u e (cmdOf p q c)) (asked-few u e p q c l) (cmdOf p q c)
 
 -- the place behind a command of the rules

@@ -10,7 +10,7 @@ use borrow.Author.Tests.{ltb-true}
 use Rattle.rules.specs.Bytes.{if_then_else_, origin, most, within, near}
 use Rattle.rules.specs.Act.{Axis, across, down, Shape, line, arc, circle, solidCircle, ellipse, solidEllipse, polygon, solidPolygon, spline, thickness, grayFill, colourFill, Act, glyph, index, to, by, page, font, size, colour, break, space, draw, device, resolution, init, file, mount, plain, raw, stop, Cmd, just, word, pair}
 use Rattle.rules.specs.Drawing.{Way, pairwise, firstAcross, wayOf}
-use Rattle.rules.specs.Scan.{Scan, got, bad, isName, isPosition, isPositive, isGray, upTo, limits, command}
+use Rattle.rules.specs.Scan.{Scan, nameOf, nameIn, got, bad, isName, isPosition, isPositive, isGray, upTo, limits, command}
 use Rattle.scan_command.specs.declared.Command.{Command}
 use Rattle.scan_command.specs.declared.Command.the-variants as C
 use Rattle.rules.specs.declared.Colour.{Colour}
@@ -19,7 +19,7 @@ use Rattle.laws.proofs.Cases.{no, if-both, if-on, and-left, and-right, not-zero
 use Rattle.laws.proofs.Good.{allTrue, Name, Shaped, Good, GoodCmd}
 use Rattle.laws.proofs.Limits.{within-bounds, upTo-near, upTo-few}
 use Rattle.laws_scan.proofs.Fair.{GoodScan, command-good}
-use Rattle.laws_scan.proofs.Bounds.{actText, textOf, Within, GotIn, command-in}
+use Rattle.laws_scan.proofs.Bounds.{Within, GotIn, command-in}
 use Rattle.read_model.specs.declared.Environment.{Environment}
 use Rattle.read_model.specs.declared.Did.{Did}
 use Rattle.read_model.specs.declared.Word.{Word}
@@ -91,7 +91,7 @@ module _ (at n q : ℕ) (z : Ends at n q) where
   one-most : (hi lo i : ℕ) → (within lo hi i && true) ≡ true → i ≤ hi
   one-most hi lo i h = within-most lo hi i (and-left (within lo hi i) true h)
 
-  act-in : (p : ℕ) (a : Act) → Good a → at ≤ p → p + length (actText a) ≤ q → CommandIn at n (actOf p q a)
+  act-in : (p : ℕ) (a : Act) → Good a → at ≤ p → p + length (nameOf a) ≤ q → CommandIn at n (actOf p q a)
   act-in p (glyph m) g b l = (z, l)
   act-in p (index i) g b l = (z, omega (arith, one-most (origin + most) (origin - most) i (g .0)))
   act-in p (to x i) g b l = (z, omega (arith, within-least (origin - most) (origin + most) i (and-left (near i) true (g .0))), omega (arith, one-most (origin + most) (origin - most) i (g .0)))
@@ -115,7 +115,7 @@ module _ (at n q : ℕ) (z : Ends at n q) where
   act-in p (raw t) g b l = z
   act-in p stop g b l = z
 
-  cmd-in : (p : ℕ) (c : Cmd) → GoodCmd c → at ≤ p → p + length (textOf c) ≤ q → CommandIn at n (cmdOf p q c)
+  cmd-in : (p : ℕ) (c : Cmd) → GoodCmd c → at ≤ p → p + length (nameIn c) ≤ q → CommandIn at n (cmdOf p q c)
   cmd-in p (just a) g b l = act-in p a g b l
   cmd-in p (word t bs) g b l = (z, omega (arith, within-most (origin - most) (origin + most) t (and-left (near t) true (g .0))), b, omega (arith, g .1 .some), l)
   cmd-in p (pair i x) g b l = (z, omega (arith, g .1 .1), omega arith)

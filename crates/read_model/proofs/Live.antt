@@ -13,12 +13,11 @@ use borrow.Author.Tests.{leb-true, ne-eqb}
 use Rattle.rules.specs.Bytes.{origin, most, near, within}
 use Rattle.rules.specs.Act.{Act, glyph, index, to, by, page, font, size, colour, break, space, draw, device, resolution, init, file, mount, plain, raw, stop, line, arc, circle, solidCircle, ellipse, solidEllipse, polygon, solidPolygon, spline, thickness, grayFill, colourFill, Cmd, just, word, pair}
 use Rattle.rules.specs.Widths.{Widths, Font, widthOf, advance}
-use Rattle.rules.specs.Scan.{limits, isName}
+use Rattle.rules.specs.Scan.{limits, nameOf, nameIn, isName}
 use Rattle.rules.specs.State.{Env, Glyph, Item, Step, refused, went, andThen, act, run, acts, perform, mountedAt, isMounted}
 use Rattle.scan_command.specs.View.{actOf, cmdOf}
 use Rattle.laws.proofs.Cases.{on, no as impossible, and-left, and-right}
 use Rattle.laws.proofs.Good.{allTrue, Name, Good, GoodCmd}
-use Rattle.laws_scan.proofs.Bounds.{actText, textOf}
 use Rattle.laws_read.proofs.Spells.{Near, perform-near}
 use Rattle.laws_read.proofs.Keeps.{Held, FontHeld, perform-held, named-mounted, position-small}
 use Rattle.read_model.specs.declared.Environment.{Environment}
@@ -139,7 +138,7 @@ module _ (w : Widths) (find : List ℕ → ℕ) (s : List ℕ) (y : (i : ℕ) �
       let h : (f < 256) × (isMounted (mountedAt f ms) ≡ true) = v .held .font f (ap fontOf q) in
       ap (λ (k : ℕ). mountAt ws (k - 1)) q ∙ ap (mountAt ws) (omega arith) ∙ v .mounted .mount f (h .0) ∙ mark-named find (mountedAt f ms) (h .1)
 
-  pub mounts-of : (p q : ℕ) (c : Cmd) → GoodCmd c → take (length (textOf c)) (drop p s) ≡ textOf c → MountsOf w s ws ms e p (askedMount ws (cmdOf p q c)) (blockNow ws e) c
+  pub mounts-of : (p q : ℕ) (c : Cmd) → GoodCmd c → take (length (nameIn c)) (drop p s) ≡ nameIn c → MountsOf w s ws ms e p (askedMount ws (cmdOf p q c)) (blockNow ws e) c
   mounts-of p q (just a) g h = act-mounts p q a (g .0)
   mounts-of p q (word n bs) g h =
       λ f k. reads-from (w .fonts) (mountedAt f ms) s ws (blockNow ws e) (λ x. advance x (e .size) (w .unitwidth) (e .quantum) + n) (λ b l. ap (λ (x : ℕ). entryAt ws x b) (block-is f k) ∙ v .mounted .table (mountedAt f ms) b l) y bs p h
@@ -151,7 +150,7 @@ module _ (w : Widths) (find : List ℕ → ℕ) (s : List ℕ) (y : (i : ℕ) �
   word-for p q (pair n b) = tt
 
   -- what the code does at a command is what the rules say
-  pub did-agrees : (at l a : ℕ) (c : Cmd) → GoodCmd c → take (length (textOf c)) (drop (at + a) s) ≡ textOf c
+  pub did-agrees : (at l a : ℕ) (c : Cmd) → GoodCmd c → take (length (nameIn c)) (drop (at + a) s) ≡ nameIn c
       → Agrees s ws (mountsAfterCmd c ms) at (at + a) l (perform (envOf e ms) (acts w (envOf e ms) c)) (didAt s ws u e at (cmdOf (at + a) (at + l) c))
   did-agrees at l a c g h =
       command-agrees w s ws ms at l (at + a) (askedMount ws (cmdOf (at + a) (at + l) c)) (blockNow ws e) u e (wordAsked s ws u e (cmdOf (at + a) (at + l) c)) (v .unit) (placed e (v .near-h) (v .near-v)) c (g .1)
@@ -165,7 +164,7 @@ WentIn (went e gs is) = Unit {0}
 
 module _ (w : Widths) (find : List ℕ → ℕ) (s : List ℕ) (ms : List (List ℕ)) (ws : List ℕ) (u : ℕ) (e : Environment) (v : Live w find ms ws u e) where
   -- mounting happens in the body alone, and there the act went
-  act-mounted : (p q : ℕ) (a : Act) → Good a → take (length (actText a)) (drop p s) ≡ actText a → WentIn (act (envOf e ms) a) → Mounted w find (mountsAfter a ms) (scratchAfter find s ws e (actOf p q a))
+  act-mounted : (p q : ℕ) (a : Act) → Good a → take (length (nameOf a)) (drop p s) ≡ nameOf a → WentIn (act (envOf e ms) a) → Mounted w find (mountsAfter a ms) (scratchAfter find s ws e (actOf p q a))
   unfolding act
   act-mounted p q (glyph n) g h k = v .mounted
   act-mounted p q (index n) g h k = v .mounted
@@ -210,14 +209,14 @@ module _ (w : Widths) (find : List ℕ → ℕ) (s : List ℕ) (ms : List (List 
       go (refused n) h = h
       go (went d gs is) h = tt
 
-  cmd-mounted : (p q : ℕ) (c : Cmd) → GoodCmd c → take (length (textOf c)) (drop p s) ≡ textOf c → WentIn (perform (envOf e ms) (acts w (envOf e ms) c))
+  cmd-mounted : (p q : ℕ) (c : Cmd) → GoodCmd c → take (length (nameIn c)) (drop p s) ≡ nameIn c → WentIn (perform (envOf e ms) (acts w (envOf e ms) c))
       → Mounted w find (mountsAfterCmd c ms) (scratchAfter find s ws e (cmdOf p q c))
   cmd-mounted p q (just a) g h k = act-mounted p q a g h (went-one a k)
   cmd-mounted p q (word n bs) g h k = v .mounted
   cmd-mounted p q (pair n b) g h k = v .mounted
 
   -- behind a command that went, all still holds
-  pub live-next : (at l a : ℕ) (c : Cmd) → GoodCmd c → take (length (textOf c)) (drop (at + a) s) ≡ textOf c → (d : Env) (gs : List Glyph) (is : List Item) (x : Did)
+  pub live-next : (at l a : ℕ) (c : Cmd) → GoodCmd c → take (length (nameIn c)) (drop (at + a) s) ≡ nameIn c → (d : Env) (gs : List Glyph) (is : List Item) (x : Did)
       → perform (envOf e ms) (acts w (envOf e ms) c) ≡ went d gs is → envOf (x .env) (mountsAfterCmd c ms) ≡ d
       → Live w find (mountsAfterCmd c ms) (scratchAfter find s ws e (cmdOf (at + a) (at + l) c)) u (x .env)
   live-next at l a c g h d gs is x q r =

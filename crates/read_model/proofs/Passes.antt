@@ -14,7 +14,7 @@ use Rattle.rules.specs.declared.Record.{Record}
 use Rattle.rules.specs.declared.Entry.{Entry}
 use Rattle.rules.specs.Bytes.{if_then_else_, is, isWhite, oneLine}
 use Rattle.rules.specs.Act.{Cmd}
-use Rattle.rules.specs.Scan.{Scan, got, bad, command, Cmds, done, wrong, next}
+use Rattle.rules.specs.Scan.{Scan, nameIn, got, bad, command, Cmds, done, wrong, next}
 use Rattle.rules.specs.Widths.{Widths}
 use Rattle.rules.specs.State.{Env, Glyph, Item, Step, refused, went, acts, perform, stopped}
 use Rattle.rules.specs.Record.{GlyphRow, ItemRow, Answer, refuse, answer, glyphRows, itemRows, afterRows, goOn, follow, recordOf, entryOf}
@@ -24,7 +24,7 @@ use Rattle.laws.proofs.Cases.{on, if-both}
 use Rattle.laws.proofs.Good.{GoodCmd}
 use Rattle.laws_read.proofs.Numbers.{StepIn, step-in}
 use Rattle.laws_scan.proofs.Fair.{GoodScan, command-good}
-use Rattle.laws_scan.proofs.Bounds.{Within, GotIn, command-in, bad-place, textOf}
+use Rattle.laws_scan.proofs.Bounds.{Within, GotIn, command-in, bad-place}
 use Rattle.laws_scan.proofs.Walk.{from, cons-at, comment-in, got-in, from-end, from-white, from-comment, from-bad, from-got}
 use Rattle.read_model.specs.declared.Environment.{Environment}
 use Rattle.read_model.specs.declared.Did.{Did}
@@ -192,7 +192,7 @@ didHere s ws st c a l = didAt s ws (st .unitwidth) (st .env) (st .at) (commandHe
 
 pub record Here (w : Widths) (find : List ℕ → ℕ) (s : List ℕ) (ms : List (List ℕ)) (ws : List ℕ) (st : State) (c : Cmd) (a l : ℕ) : Type 0 where
   pub good : GoodCmd c
-  pub stands : take (length (textOf c)) (drop (st .at + a) s) ≡ textOf c
+  pub stands : take (length (nameIn c)) (drop (st .at + a) s) ≡ nameIn c
   pub some : 1 ≤ l
   pub within : st .at + l ≤ length s
   pub found : commandAt s (st .at) ≡ commandHere st c a l

@@ -10,6 +10,7 @@ use lib.ListN.{length, take, drop, getD}
 use borrow.Author.Tests.{ltb-true, leb-true, le-leb}
 use Rattle.rules.specs.Bytes.{if_then_else_, origin, most, near}
 use Rattle.rules.specs.Act.{Axis, across, down, line, arc, circle, solidCircle, ellipse, solidEllipse, polygon, solidPolygon, spline, thickness, grayFill, colourFill, Act, glyph, index, to, by, page, font, size, colour, break, space, draw, device, resolution, init, file, mount, plain, raw, stop, Cmd, just, word, pair}
+use Rattle.rules.specs.Scan.{nameIn}
 use Rattle.rules.specs.Widths.{Widths, Font, widthOf, advance}
 use Rattle.rules.specs.State.{Spot, Env, Glyph, Item, Step, refused, went, before, andThen, setGap, glyphOf, withFont, recorded, act, run, Acts, noActs, these, ready, byteActs, wordActs, wordIn, acts, perform, mountedAt}
 use Rattle.rules.specs.State as S
@@ -18,7 +19,6 @@ use Rattle.rules.specs.House.{anchored, floating, turning, moving, manner, move
 use Rattle.scan_command.specs.View.{actOf, cmdOf}
 use Rattle.laws.proofs.Cases.{on, no, and-left, and-right}
 use Rattle.laws.proofs.Good.{GoodCmd}
-use Rattle.laws_scan.proofs.Bounds.{textOf}
 use Rattle.laws_read.proofs.Spells.{Near, perform-near}
 use Rattle.laws_print.proofs.Trip.{spellAll-append}
 use Rattle.read_model.specs.declared.Environment.{Environment}
@@ -357,7 +357,7 @@ module _ (w : Widths) (find : List ℕ → ℕ) (s : List ℕ) (y : (i : ℕ) �
       (v .near-h) (v .near-v) refl refl (mounts-of w find s y ms ws u e v (at + a) (at + l) (word n bs) g t f i) k))
 
   -- the position behind the command is that of the environment d
-  spells : (c : Cmd) → GoodCmd c → take (length (textOf c)) (drop (at + a) s) ≡ textOf c → LineIs s at a l c → (d : Env) (xs : List Act) → acts w (envOf e ms) c ≡ these xs
+  spells : (c : Cmd) → GoodCmd c → take (length (nameIn c)) (drop (at + a) s) ≡ nameIn c → LineIs s at a l c → (d : Env) (xs : List Act) → acts w (envOf e ms) c ≡ these xs
       → near (d .spot .h) ≡ true → near (d .spot .v) ≡ true → Ends d (run (envOf e ms) xs) → (p : Spot) → Spells s ws u e at a l (d .spot .h) (d .spot .v) c (envOf e ms) p xs
   spells (just x) g t i d xs q nh nv k p =
       rw (← ap actsIn q) (just-spelled s ws u e (v .near-h) (v .near-v) ms at a l x i d p (rw (← ap actsIn q) at k))
@@ -367,7 +367,7 @@ module _ (w : Widths) (find : List ℕ → ℕ) (s : List ℕ) (y : (i : ℕ) �
       (λ f j o m r. rw (← ap actsIn r) (pair-spelled s ws u e ms at a l n b t d p nh nv (rw (← ap actsIn r) at k)))
 
   -- What is written for a command that went is the house spelling of its acts; x is what the code did.
-  pub command-spelled : (c : Cmd) → GoodCmd c → take (length (textOf c)) (drop (at + a) s) ≡ textOf c → LineIs s at a l c → (d : Env) (gs : List Glyph) (is : List Item) (x : Did)
+  pub command-spelled : (c : Cmd) → GoodCmd c → take (length (nameIn c)) (drop (at + a) s) ≡ nameIn c → LineIs s at a l c → (d : Env) (gs : List Glyph) (is : List Item) (x : Did)
       → perform (envOf e ms) (acts w (envOf e ms) c) ≡ went d gs is → envOf (x .env) (mountsAfterCmd c ms) ≡ d → (xs : List Act) → acts w (envOf e ms) c ≡ these xs → (p : Spot)
       → Spells s ws u e at a l (x .env .h) (x .env .v) c (envOf e ms) p xs
   command-spelled c g t i d gs is x z r xs q p =
@@ -376,7 +376,7 @@ module _ (w : Widths) (find : List ℕ → ℕ) (s : List ℕ) (y : (i : ℕ) �
       rw (ap (λ (f : Env). f .spot .h) r, ap (λ (f : Env). f .spot .v) r) (spells c g t i d xs q (n .0) (n .1) k p)
 
   -- the command, then the rest
-  pub command-on : (c : Cmd) → GoodCmd c → take (length (textOf c)) (drop (at + a) s) ≡ textOf c → LineIs s at a l c → (d : Env) (gs : List Glyph) (is : List Item) (x : Did)
+  pub command-on : (c : Cmd) → GoodCmd c → take (length (nameIn c)) (drop (at + a) s) ≡ nameIn c → LineIs s at a l c → (d : Env) (gs : List Glyph) (is : List Item) (x : Did)
       → perform (envOf e ms) (acts w (envOf e ms) c) ≡ went d gs is → envOf (x .env) (mountsAfterCmd c ms) ≡ d → (p : Spot) (cs : List Cmd)
       → spellAll (house (envOf e ms) p (played w (envOf e ms) (c ∷ cs)))
       ≡ spelledAt s ws u e at (x .env .h) (x .env .v) (p .h) (p .v) (cmdOf (at + a) (at + l) c)

@@ -14,14 +14,15 @@ use Rattle.rules.specs.Act.{across, down, Scheme, cmy, default, gray, cmyk, rgb
 use Rattle.rules.specs.Letters.{Draft, fault, draft, withOne, withAll, ignoring, oneByte, named, numberNamed, followedByWhite, withDummy, secondDigit, schemeOf, components, inScheme, coloured}
 use Rattle.rules.specs.Drawing.{lineEnds, closed, shapeOf, Form, exactly, dummied, paired, formOf, isPaired, inPairs, dummyBehind, drawn, inShape, drawing, pairwise}
 use Rattle.rules.specs.Controls.{alone, resolutionOf, plainCount, plainly, rawText, rawLength, rawly, control, controlWord}
-use Rattle.rules.specs.Scan.{letter, isName, isPosition, isPositive, isComponent, isGray, cmdLimits, isSmall, outside, judgedBy, judged, command, Scan, got, bad}
+use Rattle.rules.specs.Scan.{letter, nameOf, isName, isPosition, isPositive, isComponent, isGray, cmdLimits, isSmall, outside, judgedBy, judged, command, Scan, got, bad}
 use Rattle.rules.specs.Record.{schemeLetter, shapeLetter}
 use Rattle.rules.specs.House.{Manner, anchored, floating, turning, moving, manner, decimal, signedDecimal, args, plusLines, spellAct}
 use Rattle.rules.specs.House as H
 use Rattle.laws.proofs.Cases.{on, no, if-both, if-on, and-left, and-right}
+use Rattle.laws.proofs.Clear.{cleared-both}
 use Rattle.laws.proofs.Good.{allTrue, Good}
 use Rattle.laws.proofs.Limits.{within-bounds, within-near, near-bounds, AllNear, within-all, upTo-near}
-use Rattle.laws_scan.proofs.Bounds.{At, at-first, at-by, at-unspaced, at-next, span-le, Stands, actText, GotIn, command-in}
+use Rattle.laws_scan.proofs.Bounds.{At, at-first, at-by, at-unspaced, at-next, span-le, Stands, GotIn, command-in}
 use Rattle.laws_scan.proofs.Fair.{NumsAre, counted, command-good}
 use Rattle.laws_scan.proofs.Walk.{cons-at}
 use Rattle.scan_command.specs.View.{part, actOf}
@@ -308,7 +309,7 @@ module _ (s : List ℕ) (at p l : ℕ) where
   unfolding spellAct
   mount-line n m g h = rw (h, plain-digits origin (origin + 255) n (omega arith) (omega arith) g, append-nil (signedDecimal n))
 
-  act-line : (x : Act) → Good x → Stands (actText x) p s → ActReads s at l x → Lined x
+  act-line : (x : Act) → Good x → Stands (nameOf x) p s → ActReads s at l x → Lined x
   unfolding spellAct
   act-line (glyph n) g h k = glyph-line n h
   act-line (index n) g h k = ap (λ (t : List ℕ). 78 ∷ t) (signed-one n (and-left (near n) true (g .0)))
@@ -535,7 +536,7 @@ judged-reads s at (fault n) h = tt
 judged-reads s at (draft c ds ks a l t) h = go (outside (cmdLimits c ++ map isSmall ds) ks)
   where
     go : (o : Option ℕ) → ScanReads s at (judgedBy c a l o)
-    go none = h
+    go none = cleared-both (ScanReads s at) c a l h tt
     go (some k) = tt
 
 -- The line of a scanned act is its spelling.

@@ -13,7 +13,7 @@ use lib.ListN.{drop}
 use Rattle.rules.specs.Bytes.{if_then_else_, within, moved, Nums, integers}
 use Rattle.rules.specs.Act.{Act, just}
 use Rattle.rules.specs.Letters.{draft, withOne}
-use Rattle.rules.specs.Scan.{letter, limits}
+use Rattle.rules.specs.Scan.{letter, limits, nameOf}
 use Rattle.laws.proofs.Cases.{on, and-left}
 use Rattle.scan_command.specs.View.{actOf, draftOf, letterAt}
 use Rattle.scan_command.specs.declared.Command.{Command}
@@ -29,10 +29,11 @@ use Rattle.scan_close.specs.declared.Argument.{Argument}
 use Rattle.scan_close.specs.declared.Argument.the-variants.{Good, Wrong}
 use Rattle.scan_close.proofs.Places.{one-shape, short-back, nums-back, judged-at, within-cut, within-uncut}
 
--- the letter b has one integer, from lo to hi, and says an act of it
+-- the letter b has one integer, from lo to hi, and no name, and says an act of it
 pub record Form (b : ℕ) (f : ℕ → Act) (lo hi : ℕ) : Type 0 where
   pub reads : (r : List ℕ) → letter b r ≡ withOne f (integers 1 1 r)
   pub limit : (n : ℕ) → limits (f n) ≡ within lo hi n ∷ []
+  pub nameless : (n : ℕ) → nameOf (f n) ≡ []
   pub below : hi < 200000000
 
 abbrev pub said : (ℕ → Act) → ℕ → Argument → Command
@@ -45,7 +46,7 @@ module _ (s : List ℕ) (at : ℕ) where
         → draftOf at (draft (just (f m)) [] places 0 end t) ≡ said f at (if within lo hi (cut m) then Good (cut m) n else Wrong 6 pa)
     one-number m places pa end n t p e =
         judged-at at (just (f m)) 0 end (limits (f m) ++ []) places (pa ∷ []) p (rw (form .limit m) (omega arith))
-        ∙ rw (form .limit m, e, within-cut lo hi m (form .below))
+        ∙ rw (form .limit m, form .nameless m, e, within-cut lo hi m (form .below))
         (on (within lo hi m) (λ w. rw (w, within-uncut lo hi m (form .below) w)) (λ w. rw w))
 
     one-by : (x : Nums) (q : One) → OneNums s (shifted at x) q → draftOf at (withOne f x) ≡ said f at (argumentOf lo hi at q)

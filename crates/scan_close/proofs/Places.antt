@@ -1,6 +1,7 @@
 -- A command closed and judged: from places of the command to places of the stream, and a limit's test of a number that is cut.
 use Prim.Native.Nat.{ℕ, _+_, _-_, _≤_, _<_}
 use native.Mathlib.Omega.{arith}
+use native.Mathlib.Nat.{add-zero}
 use mathlib.Core.Bool.{Bool, true, false, and-false}
 use mathlib.Core.List.{List, [], _∷_, map}
 use mathlib.Core.Option.{Option, none, some}
@@ -9,9 +10,9 @@ use borrow.Author.Needs.{needs}
 use borrow.Author.Tests.{le-leb, lt-leb, leb-true, leb-false}
 use lib.Dec.{leb}
 use lib.ListN.{length, drop}
-use Rattle.rules.specs.Bytes.{Num, moved, origin, most, within, near, Nums, short, nums, integers}
+use Rattle.rules.specs.Bytes.{Num, moved, origin, most, within, near, isClear, Nums, short, nums, integers}
 use Rattle.rules.specs.Act.{Cmd}
-use Rattle.rules.specs.Scan.{outside, judgedBy, isSmall}
+use Rattle.rules.specs.Scan.{nameIn, outside, cleared, judgedBy, isSmall}
 use Rattle.laws.proofs.Cases.{on, and-right}
 use Rattle.scan_command.specs.View.{cmdOf, commandOf}
 use Rattle.scan_command.specs.declared.Command.{Command}
@@ -21,7 +22,7 @@ use Rattle.scan_lex.specs.At.{breaksAt}
 use Rattle.scan_integer.specs.At.{cut}
 use Rattle.scan_arguments.specs.At.{oneAt, twoAt, threeAt}
 use Rattle.scan_arguments.proofs.Nums.{OneNums, one-nums, TwoNums, two-nums, ThreeNums, three-nums}
-use Rattle.scan_close.specs.Closed.{withinOr, endedAt}
+use Rattle.scan_close.specs.Closed.{withinOr, clearOr, endedAt}
 
 -- ---- what the code answers
 
@@ -31,6 +32,12 @@ within-yes t k c e = rw e
 pub within-no : (t : Bool) (k : ℕ) (c : Command) → t ≡ false → Refused 6 k ≡ withinOr t k c
 within-no t k c e = rw e
 
+pub clear-yes : (t : Bool) (at : ℕ) (c : Command) → t ≡ true → c ≡ clearOr t at c
+clear-yes t at c e = rw e
+
+pub clear-no : (t : Bool) (at : ℕ) (c : Command) → t ≡ false → Refused 16 at ≡ clearOr t at c
+clear-no t at c e = rw e
+
 module _ (s : List ℕ) (at n : ℕ) (c : Command) (t : Bool) (e : t ≡ breaksAt s n) where
   pub ending-yes : t ≡ true → c ≡ endedAt s at n c
   ending-yes f = rw (sym e ∙ f)
@@ -38,7 +45,7 @@ module _ (s : List ℕ) (at n : ℕ) (c : Command) (t : Bool) (e : t ≡ breaksA
   pub ending-no : t ≡ false → Refused 5 at ≡ endedAt s at n c
   ending-no f = rw (sym e ∙ f)
 
-pub ruleset closing = (within-yes, within-no, ending-yes, ending-no, needs)
+pub ruleset closing = (within-yes, within-no, clear-yes, clear-no, ending-yes, ending-no, needs)
 
 -- ---- integers whose places are those of the stream, as integers of the command
 
@@ -77,15 +84,20 @@ module _ (at : ℕ) where
   -- ---- a command, judged
 
   judged-map : (c : Cmd) (a l : ℕ) (bs : List Bool) (ks : List ℕ) → length bs ≤ length (map (λ (k : ℕ). at + k) ks)
-      → commandOf at (judgedBy c a l (outside bs ks)) ≡ answered (cmdOf (at + a) (at + l) c) (outside bs (map (λ (k : ℕ). at + k) ks))
+      → commandOf at (judgedBy c a l (outside bs ks)) ≡ answered (commandOf at (cleared c a l)) (outside bs (map (λ (k : ℕ). at + k) ks))
   judged-map c a l [] ks h = refl
   judged-map c a l (b ∷ bs) [] h = absurd (omega arith)
   judged-map c a l (true ∷ bs) (k ∷ ks) h = judged-map c a l bs ks (omega arith)
   judged-map c a l (false ∷ bs) (k ∷ ks) h = refl
 
   pub judged-at : (c : Cmd) (a l : ℕ) (bs : List Bool) (ks ps : List ℕ) → map (λ (k : ℕ). at + k) ks ≡ ps → length bs ≤ length ps
-      → commandOf at (judgedBy c a l (outside bs ks)) ≡ answered (cmdOf (at + a) (at + l) c) (outside bs ps)
+      → commandOf at (judgedBy c a l (outside bs ks)) ≡ answered (commandOf at (cleared c a l)) (outside bs ps)
   judged-at c a l bs ks ps e h = rw (← e) (judged-map c a l bs ks (rw e h))
+
+  -- a command with a name that is t: clear or not
+  pub cleared-at : (c : Cmd) (a l : ℕ) (t : Bool) → isClear (nameIn c) ≡ t → commandOf at (cleared c a l) ≡ clearOr t at (cmdOf (at + a) (at + l) c)
+  cleared-at c a l true e = rw e
+  cleared-at c a l false e = rw (e, add-zero)
 
 -- ---- limits
 

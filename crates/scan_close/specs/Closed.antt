@@ -16,6 +16,10 @@ use Rattle.scan_close.specs.declared.Argument.the-variants.{Good, Wrong}
 abbrev pub withinOr : Bool → ℕ → Command → Command
 withinOr t place c = if t then c else Refused 6 place
 
+-- no byte of the name of the command at a place is barred
+abbrev pub clearOr : Bool → ℕ → Command → Command
+clearOr t at c = if t then c else Refused 16 at
+
 -- the line breaks behind the last argument
 abbrev pub endedAt : List ℕ → ℕ → ℕ → Command → Command
 endedAt s at next c = if breaksAt s next then c else Refused 5 at

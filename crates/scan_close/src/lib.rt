@@ -1,10 +1,11 @@
-// What closes a command: an argument is within its limit, and the line breaks behind the last one (document 01, "Refusals": 5 and 6).
+// What closes a command: an argument is within its limit, the line breaks behind the last one (document 01, "Refusals": 5 and 6), and no
+// byte of its name is barred (2026-06: 16).
 use scan_arguments::One;
 use scan_command::Command;
 ghost use mathlib.Core.Path.{_≡_};
 ghost use Prim.Native.Nat.{_<_};
 ghost use lib.ListN.{length};
-ghost use Rattle.scan_close.specs.Closed.{withinOr, endedAt, argumentAt};
+ghost use Rattle.scan_close.specs.Closed.{withinOr, clearOr, endedAt, argumentAt};
 
 // One integer: within its limit, or refused.
 pub enum Argument {
@@ -20,6 +21,20 @@ pub fn within(inside: bool, place: usize, c: Command) -> Command
         c
     } else {
         Command::Refused { number: 6, place }
+    }
+}
+
+// The answer c of the command at a place, where no byte of its name is barred.
+pub fn cleared(clear: bool, at: usize, c: Command) -> Command
+    ensures { λ r. ⌜ r ≡ clearOr clear at c ⌝ }
+{
+    if clear {
+        c
+    } else {
+        Command::Refused {
+            number: 16,
+            place: at,
+        }
     }
 }
 

@@ -8,16 +8,18 @@ use mathlib.Core.List.{List, [], _∷_, _++_, map}
 use mathlib.Core.Option.{Option, none, some}
 use mathlib.Core.Path.{_≡_, refl, sym, ap, ap₂, _∙_}
 use lib.ListN.{drop}
-use Rattle.rules.specs.Bytes.{isSpace, spacer, unspaced, Nums, short, nums, integers}
+use Rattle.rules.specs.Bytes.{isSpace, isClear, spacer, unspaced, Nums, short, nums, integers}
 use Rattle.rules.specs.Act.{Scheme, Act, colour}
 use Rattle.rules.specs.Letters.{Draft, fault, draft, withAll, schemeOf, components, inScheme, coloured}
-use Rattle.rules.specs.Scan.{cmdLimits, isSmall, outside, judgedBy, letter}
+use Rattle.rules.specs.Scan.{cmdLimits, isSmall, nameIn, outside, judgedBy, letter}
 use Rattle.scan_command.specs.View.{actOf, cmdOf, commandOf, draftOf, letterAt}
 use Rattle.scan_command.specs.declared.Command.{Command}
 use Rattle.scan_command.specs.declared.Command.the-variants.{Refused}
 use Rattle.scan_command.proofs.Shift.{shifted, integers-shift}
 use Rattle.scan_lex.specs.At.{runEnd}
 use Rattle.scan_lex.proofs.Runs.{unspaced-at}
+use Rattle.scan_close.specs.Closed.{clearOr}
+use Rattle.scan_close.proofs.Places.{cleared-at}
 
 -- where the first argument outside its limit begins, d where its place is not known
 abbrev pub outsideOr : ℕ → List Bool → List ℕ → Option ℕ
@@ -38,7 +40,7 @@ placedWith at l a o = limited (Refused 6) (actOf (at + 0) l a) o
 
 abbrev pub placedOf : ℕ → Draft → Command
 placedOf at (fault n) = Refused n at
-placedOf at (draft c js ks a l t) = limited (Refused 6) (cmdOf (at + a) l c) (outsideOr at (cmdLimits c ++ map isSmall js) ks)
+placedOf at (draft c js ks a l t) = limited (Refused 6) (clearOr (isClear (nameIn c)) at (cmdOf (at + a) l c)) (outsideOr at (cmdLimits c ++ map isSmall js) ks)
 
 abbrev pub shiftedDraft : ℕ → Draft → Draft
 shiftedDraft at (fault n) = fault n
@@ -49,8 +51,9 @@ module _ (at : ℕ) where
   draft-shift (fault n) = rw add-zero
   draft-shift (draft c js ks a l t) = go (cmdLimits c ++ map isSmall js) ks
     where
-      go : (bs : List Bool) (is : List ℕ) → commandOf at (judgedBy c a l (outside bs is)) ≡ limited (Refused 6) (cmdOf (at + a) (at + l) c) (outsideOr at bs (map (λ (k : ℕ). at + k) is))
-      go [] is = refl
+      go : (bs : List Bool) (is : List ℕ)
+          → commandOf at (judgedBy c a l (outside bs is)) ≡ limited (Refused 6) (clearOr (isClear (nameIn c)) at (cmdOf (at + a) (at + l) c)) (outsideOr at bs (map (λ (k : ℕ). at + k) is))
+      go [] is = cleared-at at c a l (isClear (nameIn c)) refl
       go (true ∷ bs) [] = go bs []
       go (true ∷ bs) (k ∷ is) = go bs is
       go (false ∷ bs) [] = rw add-zero

@@ -3,6 +3,7 @@ use Prim.Native.Nat.{ℕ, _+_, _-_, _≤_, _<_}
 use mathlib.Core.Bool.{Bool}
 use mathlib.Core.List.{List, [], _∷_}
 use mathlib.Core.Path.{_≡_, sym, _∙_}
+use lib.Dec.{leb}
 use lib.ListN.{length, getD}
 use borrow.Author.Needs.{needs}
 use borrow.Author.Tests.{le-leb, lt-leb}
@@ -14,15 +15,16 @@ use Rattle.scan_command.specs.declared.Command.the-variants as K
 use Rattle.scan_letters.specs.Selected.{controlOf}
 use Rattle.scan_letters.specs.declared.Control.{Control}
 use Rattle.scan_letters.specs.declared.Control.the-variants as L
-use Rattle.scan_lex.specs.At.{runEnd}
+use Rattle.scan_lex.specs.At.{runEnd, isNameByte}
 use Rattle.scan_arguments.specs.At.{oneAt, threeAt}
 use Rattle.scan_arguments.specs.declared.One.{One}
 use Rattle.scan_arguments.specs.declared.One.the-variants as A
 use Rattle.scan_arguments.specs.declared.Three.{Three}
 use Rattle.scan_arguments.specs.declared.Three.the-variants as C
 use Rattle.scan_lex.proofs.Runs.{run-from}
-use Rattle.scan_close.specs.Closed.{withinOr, endedAt}
-use Rattle.scan_controls.specs.Parts.{namedTo, shortName, deviceAt, fileAt, mountedAt, mountAt, bareAt, plainAt, resolutionAt}
+use Rattle.scan_lex.proofs.Names.{string-ends}
+use Rattle.scan_close.specs.Closed.{withinOr, clearOr, endedAt}
+use Rattle.scan_controls.specs.Parts.{namedTo, clearName, deviceAt, fileAt, mountedAt, mountAt, bareAt, plainAt, resolutionAt}
 use Rattle.scan_controls.proofs.Forms.{byControl, word-none, word-is}
 
 -- ---- names
@@ -36,22 +38,25 @@ module _ (s : List ℕ) (at p e : ℕ) (c : Command) where
   unfolding namedTo
   named-some r l f = rw (f, lt-leb e p l)
 
-pub name-order : (s : List ℕ) (p e : ℕ) → e ≡ runEnd isNotWhite s p → p ≤ e
-name-order s p e h = rw h (run-from isNotWhite s p)
+pub clear-name : (at p n : ℕ) (t : Bool) (c y r : Command) → y ≡ clearOr t at c → r ≡ withinOr (leb n 64) p y → r ≡ clearName at p n t c
+clear-name at p n t c y r e f = rw (f, e)
 
-module _ (s : List ℕ) (at i p e : ℕ) (r x : Command) (g : p ≡ runEnd isSpace s i) (h : e ≡ runEnd isNotWhite s p) where
-  pub device-is : x ≡ shortName p (e - p) (K.Device p (e - p) e) → r ≡ namedTo s at p e x → r ≡ deviceAt s at i
+pub name-order : (s : List ℕ) (p q e : ℕ) → q ≡ runEnd isNameByte s p → e ≡ runEnd isNotWhite s q → p ≤ e
+name-order s p q e g h = rw (string-ends s p q e g h) (run-from isNotWhite s p)
+
+module _ (s : List ℕ) (at i p q e : ℕ) (r x : Command) (g : p ≡ runEnd isSpace s i) (b : q ≡ runEnd isNameByte s p) (h : e ≡ runEnd isNotWhite s q) where
+  pub device-is : x ≡ clearName at p (e - p) (leb e q) (K.Device p (e - p) e) → r ≡ namedTo s at p e x → r ≡ deviceAt s at i
   unfolding deviceAt
-  device-is k f = rw (f, k, ← g, ← h)
+  device-is k f = rw (f, k, ← g, ← b, ← h)
 
-  pub file-is : x ≡ shortName p (e - p) (K.File p (e - p) e) → r ≡ namedTo s at p e x → r ≡ fileAt s at i
+  pub file-is : x ≡ clearName at p (e - p) (leb e q) (K.File p (e - p) e) → r ≡ namedTo s at p e x → r ≡ fileAt s at i
   unfolding fileAt
-  file-is k f = rw (f, k, ← g, ← h)
+  file-is k f = rw (f, k, ← g, ← b, ← h)
 
-  pub mounted-is : (a pa n : ℕ) (t : Bool) (y : Command) → n ≡ a - 100000000 → t ≡ isPosition a → y ≡ shortName p (e - p) (K.Mount n p (e - p) e)
-      → x ≡ withinOr t pa y → r ≡ namedTo s at p e x → r ≡ mountedAt a pa s at i
+  pub mounted-is : (a pa n : ℕ) (t : Bool) (y : Command) → n ≡ a - 100000000 → t ≡ isPosition a
+      → y ≡ clearName at p (e - p) (leb e q) (K.Mount n p (e - p) e) → x ≡ withinOr t pa y → r ≡ namedTo s at p e x → r ≡ mountedAt a pa s at i
   unfolding mountedAt
-  mounted-is a pa n t y m v k l f = rw (f, l, k, v, m, ← g, ← h)
+  mounted-is a pa n t y m v k l f = rw (f, l, k, v, m, ← g, ← b, ← h)
 
 -- ---- integers
 
@@ -95,4 +100,4 @@ module _ (s : List ℕ) (at i : ℕ) (p : i ≡ runEnd isSpace s (at + 1)) (h : 
     pub by-bare : (r x : Command) → k ≡ L.Bare → x ≡ bareAt (getD s i 0) j → r ≡ endedAt s at j x → r ≡ letterAt 120 s at
     by-bare r x e l f = by-control L.Bare r e (rw (f, l))
 
-pub ruleset steps = (named-none, named-some, name-order, device-is, file-is, mounted-is, mount-short, mount-read, plain-short, plain-read, resolution-short, resolution-read, word-none, by-control, by-bare, needs)
+pub ruleset steps = (named-none, named-some, clear-name, name-order, device-is, file-is, mounted-is, mount-short, mount-read, plain-short, plain-read, resolution-short, resolution-read, word-none, by-control, by-bare, needs)

@@ -1,5 +1,5 @@
 // Controls: the command `x` (document 01, "Controls"). A number is handed on by the leaf scanners as itself + 100,000,000. Refusals at
-// one command are found in the order 3, 4, 5, 6; a refusal 6 is at the first argument outside its limit.
+// one command are found in the order 3, 4, 5, 6, 16; a refusal 6 is at the first argument outside its limit.
 use scan_arguments::One;
 use scan_arguments::Three;
 use scan_command::Command;
@@ -9,7 +9,7 @@ ghost use Prim.Native.Nat.{_<_};
 ghost use lib.ListN.{length};
 ghost use Rattle.rules.specs.Scan.{isPosition, isPositive};
 ghost use Rattle.scan_command.specs.View.{letterAt};
-ghost use Rattle.scan_controls.specs.Parts.{namedTo, shortName, deviceAt, fileAt, mountedAt, mountAt, bareAt, plainAt, resolutionAt};
+ghost use Rattle.scan_controls.specs.Parts.{namedTo, clearName, deviceAt, fileAt, mountedAt, mountAt, bareAt, plainAt, resolutionAt};
 
 // From 1 to 99,999,999.
 fn is_positive(n: u32) -> bool
@@ -38,11 +38,11 @@ fn named(s: &[u8], at: usize, place: usize, next: usize, c: Command) -> Command
     scan_close::ending(s, at, next, c)
 }
 
-// The answer c, where the string at a place has at most 64 bytes.
-fn short_name(place: usize, len: usize, c: Command) -> Command
-    ensures { λ r. ⌜ r ≡ shortName place len c ⌝ }
+// The answer c of the command at a place, where its string at another has at most 64 bytes, and none of them is barred.
+fn clear_name(at: usize, place: usize, len: usize, clear: bool, c: Command) -> Command
+    ensures { λ r. ⌜ r ≡ clearName at place len clear c ⌝ }
 {
-    scan_close::within(len <= 64, place, c)
+    scan_close::within(len <= 64, place, scan_close::cleared(clear, at, c))
 }
 
 // `T`. Here and below, the command's place is `at`, and its arguments stand from i on.
@@ -50,10 +50,12 @@ fn device(s: &[u8], at: usize, i: usize) -> Command
     ensures { λ r. ⌜ r ≡ deviceAt (now (s .entry)) at i ⌝ }
 {
     let place = scan_lex::spacer_end(s, i);
-    let next = scan_lex::string_end(s, place);
+    let clear_end = scan_lex::name_end(s, place);
+    let next = scan_lex::string_end(s, clear_end);
     let len = next - place;
     let c = Command::Device { place, len, next };
-    named(s, at, place, next, short_name(place, len, c))
+    let judged = clear_name(at, place, len, next <= clear_end, c);
+    named(s, at, place, next, judged)
 }
 
 // `F`
@@ -61,10 +63,12 @@ fn file(s: &[u8], at: usize, i: usize) -> Command
     ensures { λ r. ⌜ r ≡ fileAt (now (s .entry)) at i ⌝ }
 {
     let place = scan_lex::spacer_end(s, i);
-    let next = scan_lex::string_end(s, place);
+    let clear_end = scan_lex::name_end(s, place);
+    let next = scan_lex::string_end(s, clear_end);
     let len = next - place;
     let c = Command::File { place, len, next };
-    named(s, at, place, next, short_name(place, len, c))
+    let judged = clear_name(at, place, len, next <= clear_end, c);
+    named(s, at, place, next, judged)
 }
 
 // `f` with its number, which begins at pa: the string is due from i on.
@@ -72,7 +76,8 @@ fn mounted(s: &[u8], at: usize, i: usize, a: u32, pa: usize) -> Command
     ensures { λ r. ⌜ r ≡ mountedAt a pa (now (s .entry)) at i ⌝ }
 {
     let place = scan_lex::spacer_end(s, i);
-    let next = scan_lex::string_end(s, place);
+    let clear_end = scan_lex::name_end(s, place);
+    let next = scan_lex::string_end(s, clear_end);
     let len = next - place;
     let c = Command::Mount {
         position: scan_integer::unmoved(a),
@@ -80,7 +85,8 @@ fn mounted(s: &[u8], at: usize, i: usize, a: u32, pa: usize) -> Command
         len,
         next,
     };
-    let judged = scan_close::within(is_position(a), pa, short_name(place, len, c));
+    let second = clear_name(at, place, len, next <= clear_end, c);
+    let judged = scan_close::within(is_position(a), pa, second);
     named(s, at, place, next, judged)
 }
 

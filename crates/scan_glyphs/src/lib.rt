@@ -1,6 +1,6 @@
 // The commands that draw glyphs: by byte, name and index, words, and the two-digit command (document 01, "Commands of one letter").
-// Each function has the place of the letter, and answers the command or its refusal: 4 at that place, 6 at the first argument outside its
-// limit.
+// Each function has the place of the letter, and answers the command or its refusal: 4 and 16 at that place, 6 at the first argument
+// outside its limit.
 use scan_arguments::One;
 use scan_arguments::Perhaps;
 use scan_close::Argument;
@@ -12,7 +12,7 @@ ghost use lib.ListN.{length, drop};
 ghost use Rattle.rules.specs.Bytes.{isDigit};
 ghost use Rattle.rules.specs.Letters.{whiteNext};
 ghost use Rattle.scan_command.specs.View.{letterAt};
-ghost use Rattle.scan_glyphs.specs.Parts.{dummyAt, wordWith, wordAt};
+ghost use Rattle.scan_glyphs.specs.Parts.{dummyAt, noGlyph, wordWith, wordFrom};
 
 // The dummy integer behind a word: none or a small one, one outside its limit, or a malformed one.
 enum Dummy {
@@ -46,32 +46,49 @@ pub fn index(s: &[u8], at: usize) -> Command
     }
 }
 
+// No glyph's byte stands at a place: whitespace or the end, or a barred byte.
+fn no_glyph(s: &[u8], at: usize, place: usize) -> Command
+    ensures { λ r. ⌜ r ≡ noGlyph (now (s .entry)) at place ⌝ }
+{
+    if white_next(s, place) {
+        Command::Refused {
+            number: 4,
+            place: at,
+        }
+    } else {
+        Command::Refused {
+            number: 16,
+            place: at,
+        }
+    }
+}
+
 // `c`: a glyph of one byte
 pub fn glyph_byte(s: &[u8], at: usize) -> Command
     requires { ⌜ at < length (now s) ⌝ }
     ensures { λ r. ⌜ r ≡ letterAt 99 (now (s .entry)) at ⌝ }
 {
     let place = scan_lex::spacer_end(s, at + 1);
-    if white_next(s, place) {
-        return Command::Refused {
-            number: 4,
-            place: at,
-        };
-    }
-    Command::Glyph {
-        place,
-        len: 1,
-        next: place + 1,
+    let b = scan_lex::byte_at(s, place);
+    if scan_lex::is_name_byte(b) {
+        Command::Glyph {
+            place,
+            len: 1,
+            next: place + 1,
+        }
+    } else {
+        no_glyph(s, at, place)
     }
 }
 
-// `C`: a glyph's name, of at most 64 bytes
+// `C`: a glyph's name, of at most 64 bytes, none of them barred
 pub fn glyph_name(s: &[u8], at: usize) -> Command
     requires { ⌜ at < length (now s) ⌝ }
     ensures { λ r. ⌜ r ≡ letterAt 67 (now (s .entry)) at ⌝ }
 {
     let place = scan_lex::spacer_end(s, at + 1);
-    let next = scan_lex::string_end(s, place);
+    let clear_end = scan_lex::name_end(s, place);
+    let next = scan_lex::string_end(s, clear_end);
     if next <= place {
         return Command::Refused {
             number: 4,
@@ -82,7 +99,7 @@ pub fn glyph_name(s: &[u8], at: usize) -> Command
     if 64 < len {
         return Command::Refused { number: 6, place };
     }
-    Command::Glyph { place, len, next }
+    scan_close::cleared(next <= clear_end, at, Command::Glyph { place, len, next })
 }
 
 // The dummy integer behind a word that ends at a place.
@@ -106,9 +123,18 @@ fn dummy_at(s: &[u8], at: usize) -> Dummy
     }
 }
 
-// The word from place to end, with its dummy judged, of the command at a place; the word's number stands at pa.
-fn judged_word(dummy: Dummy, at: usize, track: u32, pa: usize, place: usize, end: usize) -> Command
-    ensures { λ r. ⌜ r ≡ wordWith track pa place end at dummy ⌝ }
+// The word from place to end, with its dummy judged, of the command at a place; the word's number stands at pa, and no byte is barred
+// where it is clear.
+fn judged_word(
+    dummy: Dummy,
+    at: usize,
+    track: u32,
+    pa: usize,
+    place: usize,
+    end: usize,
+    clear: bool,
+) -> Command
+    ensures { λ r. ⌜ r ≡ wordWith track pa place end at clear dummy ⌝ }
 {
     match dummy {
         Dummy::Malformed => Command::Refused {
@@ -130,12 +156,13 @@ fn judged_word(dummy: Dummy, at: usize, track: u32, pa: usize, place: usize, end
         }
         Dummy::Fine { next } => {
             if scan_integer::is_near(track) {
-                Command::Word {
+                let c = Command::Word {
                     track,
                     place,
                     end,
                     next,
-                }
+                };
+                scan_close::cleared(clear, at, c)
             } else {
                 Command::Refused {
                     number: 6,
@@ -146,27 +173,37 @@ fn judged_word(dummy: Dummy, at: usize, track: u32, pa: usize, place: usize, end
     }
 }
 
-// The word from the place i on, perhaps behind a spacer, and its dummy.
-fn word_at(s: &[u8], at: usize, i: usize, track: u32, pa: usize) -> Command
-    ensures { λ r. ⌜ r ≡ wordAt track pa i (now (s .entry)) at ⌝ }
+// The word from a place on, whose bytes up to clear are those of a name, and its dummy.
+fn word_from(s: &[u8], at: usize, place: usize, clear: usize, track: u32, pa: usize) -> Command
+    ensures { λ r. ⌜ r ≡ wordFrom track pa place clear (now (s .entry)) at ⌝ }
 {
-    let place = scan_lex::spacer_end(s, i);
-    let end = scan_lex::string_end(s, place);
+    let end = scan_lex::string_end(s, clear);
     if end <= place {
         return Command::Refused {
             number: 4,
             place: at,
         };
     }
-    judged_word(dummy_at(s, end), at, track, pa, place, end)
+    judged_word(dummy_at(s, end), at, track, pa, place, end, end <= clear)
 }
 
-// `t`
+// `t`. Most words end their line, and have neither a barred byte nor a dummy: those are answered here, as word_from would, to save time.
 pub fn word(s: &[u8], at: usize) -> Command
     requires { ⌜ at < length (now s) ⌝ }
     ensures { λ r. ⌜ r ≡ letterAt 116 (now (s .entry)) at ⌝ }
 {
-    word_at(s, at, at + 1, 100_000_000, at + 1)
+    let place = scan_lex::spacer_end(s, at + 1);
+    let clear_end = scan_lex::name_end(s, place);
+    let b = scan_lex::byte_at(s, clear_end);
+    if b == 10 && place < clear_end {
+        return Command::Word {
+            track: 100_000_000,
+            place,
+            end: clear_end,
+            next: clear_end,
+        };
+    }
+    word_from(s, at, place, clear_end, 100_000_000, at + 1)
 }
 
 // `u`: a number before the word
@@ -179,7 +216,11 @@ pub fn tracked(s: &[u8], at: usize) -> Command
             number: 4,
             place: at,
         },
-        One::Read { a, pa, next } => word_at(s, at, next, a, pa),
+        One::Read { a, pa, next } => {
+            let place = scan_lex::spacer_end(s, next);
+            let clear_end = scan_lex::name_end(s, place);
+            word_from(s, at, place, clear_end, a, pa)
+        }
     }
 }
 
@@ -192,16 +233,15 @@ pub fn two_digits(s: &[u8], at: usize, b: u8) -> Command
     let c = scan_lex::byte_at(s, second);
     if scan_lex::is_digit(c) {
         let place = scan_lex::spacer_end(s, second + 1);
-        if white_next(s, place) {
-            return Command::Refused {
-                number: 4,
-                place: at,
-            };
-        }
-        Command::Pair {
-            number: 100_000_000 + (scan_integer::digit_of(b) * 10 + scan_integer::digit_of(c)),
-            place,
-            next: place + 1,
+        let g = scan_lex::byte_at(s, place);
+        if scan_lex::is_name_byte(g) {
+            Command::Pair {
+                number: 100_000_000 + (scan_integer::digit_of(b) * 10 + scan_integer::digit_of(c)),
+                place,
+                next: place + 1,
+            }
+        } else {
+            no_glyph(s, at, place)
         }
     } else {
         Command::Refused {

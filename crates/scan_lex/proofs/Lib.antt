@@ -1,3 +1,4 @@
 pub mod Runs
+pub mod Names
 pub mod Texts
 pub mod Lines

@@ -11,11 +11,12 @@ use lib.Dec.{eqb, ltb, leb}
 use lib.ListN.{length, drop, getD, drop-of-length-le}
 use mir.Syntax.{w64}
 use mir.Val.{Fits}
-use Rattle.rules.specs.Bytes.{is, same, isWhite, isNotWhite, isNotNewline, oneLine}
-use Rattle.rules.specs.Widths.{isString}
+use Rattle.rules.specs.Bytes.{is, same, isWhite, isNotNewline, oneLine}
+use Rattle.rules.specs.Widths.{isListName}
 use Rattle.laws.proofs.Cases.{on, no}
 use Rattle.laws_scan.proofs.Walk.{cons-at}
-use Rattle.scan_lex.specs.At.{runEnd, blankAt}
+use Rattle.scan_lex.specs.At.{runEnd, isNameByte, blankAt}
+use Rattle.scan_lex.proofs.Names.{clear-whole}
 use Rattle.scan_lex.proofs.Runs.{inside, run-within}
 
 -- ---- between commands
@@ -95,8 +96,8 @@ module _ (a b : List ℕ) (i : ℕ) (v : same a b ≡ same (drop i a) (drop i b)
 
 -- ---- a name
 
-pub string-is : (t : List ℕ) (n : ℕ) → n ≡ runEnd isNotWhite t 0 → (ltb 0 (length t) && (leb (length t) 64 && eqb n (length t))) ≡ isString t
+pub list-name-is : (t : List ℕ) (n : ℕ) → n ≡ runEnd isNameByte t 0 → (ltb 0 (length t) && (leb (length t) 64 && eqb n (length t))) ≡ isListName t
 unfolding runEnd
-string-is t n e = rw (e, zero-add)
+list-name-is t n e = rw (e, zero-add, clear-whole t)
 
-pub ruleset texts = (behind-white, behind-hash, white-here, comment-here, command-here, same-lengths, same-over, same-more, same-off, string-is, needs)
+pub ruleset texts = (behind-white, behind-hash, white-here, comment-here, command-here, same-lengths, same-over, same-more, same-off, list-name-is, needs)

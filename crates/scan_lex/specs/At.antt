@@ -1,14 +1,18 @@
 -- The runs of bytes of document 01 ("Bytes, spaces, numbers") at a place of a list, as the scanners answer them: places are those of
 -- the list.
 use Prim.Native.Nat.{ℕ, _+_}
-use mathlib.Core.Bool.{Bool}
+use mathlib.Core.Bool.{Bool, not, _&&_}
 use mathlib.Core.List.{List}
 use lib.ListN.{drop, getD}
-use Rattle.rules.specs.Bytes.{if_then_else_, is, isWhite, span, oneLine}
+use Rattle.rules.specs.Bytes.{if_then_else_, is, isWhite, isNotWhite, isBarred, span, oneLine}
 use Rattle.rules.specs.Drawing.{lineEnds}
 
 unfoldable pub runEnd : (ℕ → Bool) → List ℕ → ℕ → ℕ
 runEnd p s at = at + span p (drop at s)
+
+-- a byte that may stand in a name: it is neither whitespace nor barred (2026-06)
+abbrev pub isNameByte : ℕ → Bool
+isNameByte b = isNotWhite b && not (isBarred b)
 
 -- the place behind what stands between commands at a place: a byte of whitespace, or a comment up to its newline; where neither
 -- stands it is the place itself

@@ -3,8 +3,8 @@
 ghost use mathlib.Core.Path.{_≡_};
 ghost use lib.ListN.{getD};
 ghost use Rattle.rules.specs.Bytes.{same, isSpace, isWhite, isNotWhite, isNotNewline, isDigit};
-ghost use Rattle.rules.specs.Widths.{isString};
-ghost use Rattle.scan_lex.specs.At.{runEnd, blankAt, breaksAt};
+ghost use Rattle.rules.specs.Widths.{isListName};
+ghost use Rattle.scan_lex.specs.At.{runEnd, isNameByte, blankAt, breaksAt};
 
 fn is_space(b: u8) -> bool
     ensures { λ r. ⌜ r ≡ isSpace b ⌝ }
@@ -63,6 +63,24 @@ pub fn string_end(s: &[u8], at: usize) -> usize
     i
 }
 
+// Whether a byte may stand in a name. Bytes below 32 are barred or whitespace.
+pub fn is_name_byte(b: u8) -> bool
+    ensures { λ r. ⌜ r ≡ isNameByte b ⌝ }
+{
+    (32 < b) & !(b == 127)
+}
+
+// The end of the bytes that may stand in a name: where a string has no barred byte, it is the string's end.
+pub fn name_end(s: &[u8], at: usize) -> usize
+    ensures { λ r. ⌜ r ≡ runEnd isNameByte (now (s .entry)) at ⌝ }
+{
+    let mut i = at;
+    while i < s.len() && is_name_byte(s[i]) {
+        i += 1;
+    }
+    i
+}
+
 pub fn line_end(s: &[u8], at: usize) -> usize
     ensures { λ r. ⌜ r ≡ runEnd isNotNewline (now (s .entry)) at ⌝ }
 {
@@ -106,11 +124,11 @@ pub fn same_bytes(a: &[u8], b: &[u8]) -> bool
     }
 }
 
-// Whether a text is a name: 1 to 64 bytes, none of them whitespace.
-pub fn is_string(t: &[u8]) -> bool
-    ensures { λ r. ⌜ r ≡ isString (now (t .entry)) ⌝ }
+// Whether a text is a name of a list: 1 to 64 bytes, none of them whitespace or barred.
+pub fn is_list_name(t: &[u8]) -> bool
+    ensures { λ r. ⌜ r ≡ isListName (now (t .entry)) ⌝ }
 {
-    let n = string_end(t, 0);
+    let n = name_end(t, 0);
     (0 < t.len()) & ((t.len() <= 64) & (n == t.len()))
 }
 

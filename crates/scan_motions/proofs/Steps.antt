@@ -27,31 +27,31 @@ use Rattle.scan_close.proofs.Arguments.{Form, one-wrong, one-good, good-least}
 
 pub form-to-h : Form 72 (to across) 1 199999999
 unfolding letter
-form-to-h = record { reads = λ r. refl; limit = λ n. refl; below = omega arith }
+form-to-h = record { reads = λ r. refl; limit = λ n. refl; nameless = λ n. refl; below = omega arith }
 
 pub form-to-v : Form 86 (to down) 1 199999999
 unfolding letter
-form-to-v = record { reads = λ r. refl; limit = λ n. refl; below = omega arith }
+form-to-v = record { reads = λ r. refl; limit = λ n. refl; nameless = λ n. refl; below = omega arith }
 
 pub form-by-h : Form 104 (by across) 1 199999999
 unfolding letter
-form-by-h = record { reads = λ r. refl; limit = λ n. refl; below = omega arith }
+form-by-h = record { reads = λ r. refl; limit = λ n. refl; nameless = λ n. refl; below = omega arith }
 
 pub form-by-v : Form 118 (by down) 1 199999999
 unfolding letter
-form-by-v = record { reads = λ r. refl; limit = λ n. refl; below = omega arith }
+form-by-v = record { reads = λ r. refl; limit = λ n. refl; nameless = λ n. refl; below = omega arith }
 
 pub form-page : Form 112 page 1 199999999
 unfolding letter
-form-page = record { reads = λ r. refl; limit = λ n. refl; below = omega arith }
+form-page = record { reads = λ r. refl; limit = λ n. refl; nameless = λ n. refl; below = omega arith }
 
 pub form-font : Form 102 font 100000000 100000255
 unfolding letter
-form-font = record { reads = λ r. refl; limit = λ n. refl; below = omega arith }
+form-font = record { reads = λ r. refl; limit = λ n. refl; nameless = λ n. refl; below = omega arith }
 
 pub form-size : Form 115 size 100000001 199999999
 unfolding letter
-form-size = record { reads = λ r. refl; limit = λ n. refl; below = omega arith }
+form-size = record { reads = λ r. refl; limit = λ n. refl; nameless = λ n. refl; below = omega arith }
 
 -- ---- two integers that are ignored: `n`
 

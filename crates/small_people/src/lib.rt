@@ -77,7 +77,7 @@ fn next_column(column: usize, byte: u8) -> usize
     if byte == b'\n' { 1 } else { column + 1 }
 }
 
-// The reason in words, after the table of document 01.
+// The reason in words, after the table of document 01, and document 02 for 16.
 fn put_reason(line: &mut [u8], at: usize, number: u32) -> usize {
     match number {
         1 => put_all(
@@ -112,6 +112,11 @@ fn put_reason(line: &mut [u8], at: usize, number: u32) -> usize {
             line,
             at,
             b"records, entries, hits or spelling need more room than lent, or the spelling is over 16,777,216 bytes",
+        ),
+        16 => put_all(
+            line,
+            at,
+            b"byte 0 to 8, 11 to 31 or 127 in a name, a glyph or a word",
         ),
         _ => put_all(line, at, b"unknown refusal"),
     }

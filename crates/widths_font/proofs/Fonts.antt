@@ -8,7 +8,7 @@ use borrow.Author.Needs.{needs}
 use borrow.Author.Tests.{lt-ltb, le-ltb}
 use lib.Dec.{eqb}
 use lib.ListN.{length, set}
-use Rattle.rules.specs.Widths.{Widths, Due, blockDue, wrongLine, rightLine, isString, isNew, fontLine}
+use Rattle.rules.specs.Widths.{Widths, Due, blockDue, wrongLine, rightLine, isListName, isNew, fontLine}
 use Rattle.laws.proofs.Cases.{on, and-left, and-right}
 use Rattle.name.specs.Part.{partOf}
 use Rattle.widths_table.specs.Slots.{slotIn}
@@ -18,14 +18,14 @@ use Rattle.widths_line.specs.Reading.{Holds}
 use Rattle.widths_font.specs.Fonts.{isFresh, Told, Room, Cleared, fontSays}
 use Rattle.widths_font.proofs.Rows.{table-new, names-new}
 
-font-good : (w : Widths) (n : List ℕ) → isString n ≡ true → length (w .fonts) < 32 → isNew n (w .fonts) ≡ true
+font-good : (w : Widths) (n : List ℕ) → isListName n ≡ true → length (w .fonts) < 32 → isNew n (w .fonts) ≡ true
     → fontLine w n ≡ rightLine blockDue (record { unitwidth = w .unitwidth; fonts = record { name = n; widths = [] } ∷ w .fonts })
 font-good w n s h e = rw (s, lt-ltb (length (w .fonts)) 32 h, e)
 
 font-many : (w : Widths) (n : List ℕ) → 32 ≤ length (w .fonts) → fontLine w n ≡ wrongLine
-font-many w n h = on (isString n) (λ e. rw (e, le-ltb (length (w .fonts)) 32 h)) (λ e. rw e)
+font-many w n h = on (isListName n) (λ e. rw (e, le-ltb (length (w .fonts)) 32 h)) (λ e. rw e)
 
-font-bad : (w : Widths) (n : List ℕ) → length (w .fonts) < 32 → (isString n && isNew n (w .fonts)) ≡ false → fontLine w n ≡ wrongLine
+font-bad : (w : Widths) (n : List ℕ) → length (w .fonts) < 32 → (isListName n && isNew n (w .fonts)) ≡ false → fontLine w n ≡ wrongLine
 font-bad w n h e = rw (lt-ltb (length (w .fonts)) 32 h, e)
 
 module _ (list T P L : List ℕ) (place len next : ℕ) (st : State) where
@@ -34,7 +34,7 @@ module _ (list T P L : List ℕ) (place len next : ℕ) (st : State) where
 
   module _ (own : List ℕ) (f : Bool) (h : st .fonts < 32) (e : f ≡ isFresh list P L (st .fonts) own) (eo : own ≡ partOf list place len) where
     -- what the test says of the rules' fonts
-    fresh : (w : Widths) (d : Due) → Holds list T P L w d st → f ≡ (isString (partOf list place len) && isNew (partOf list place len) (w .fonts))
+    fresh : (w : Widths) (d : Due) → Holds list T P L w d st → f ≡ (isListName (partOf list place len) && isNew (partOf list place len) (w .fonts))
     fresh w d v =
         e ∙ rw (eo, v .fonts, slot-names list P L (partOf list place len) (w .fonts) (v .names), new-slot (partOf list place len) (w .fonts) (v .few))
 
@@ -49,7 +49,7 @@ module _ (list T P L : List ℕ) (place len next : ℕ) (st : State) where
           let n = partOf list place len in
           let ok = sym (fresh w d v) ∙ g in
           let few : length (w .fonts) < 32 = omega (arith, v .fonts) in
-          rw (font-good w n (and-left (isString n) (isNew n (w .fonts)) ok) few (and-right (isString n) (isNew n (w .fonts)) ok), v .fonts) (
+          rw (font-good w n (and-left (isListName n) (isNew n (w .fonts)) ok) few (and-right (isListName n) (isNew n (w .fonts)) ok), v .fonts) (
             refl,
             record {
               due = refl;
@@ -65,7 +65,7 @@ module _ (list T P L : List ℕ) (place len next : ℕ) (st : State) where
           );
     }
 
-pub fresh-ok : (list P L n : List ℕ) (fonts k : ℕ) (f : Bool) → f ≡ isString n → k ≡ slotIn list P L fonts n → (f && eqb k 32) ≡ isFresh list P L fonts n
+pub fresh-ok : (list P L n : List ℕ) (fonts k : ℕ) (f : Bool) → f ≡ isListName n → k ≡ slotIn list P L fonts n → (f && eqb k 32) ≡ isFresh list P L fonts n
 fresh-ok list P L n fonts k f e q = rw (e, q)
 
 pub ruleset fonts = (font-full, font-wrong, font-right, fresh-ok, needs)

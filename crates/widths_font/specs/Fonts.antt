@@ -5,14 +5,14 @@ use mathlib.Core.List.{List}
 use mathlib.Core.Path.{_≡_}
 use lib.Dec.{eqb}
 use lib.ListN.{length, getD}
-use Rattle.rules.specs.Widths.{Widths, Due, LineRead, isString, fontLine}
+use Rattle.rules.specs.Widths.{Widths, Due, LineRead, isListName, fontLine}
 use Rattle.widths_table.specs.Slots.{slotIn}
 use Rattle.widths_line.specs.declared.State.{State}
 use Rattle.widths_line.specs.Reading.{Holds, After}
 
--- a string that is the name of no font so far
+-- a name of a list that no font has so far
 abbrev pub isFresh : List ℕ → List ℕ → List ℕ → ℕ → List ℕ → Bool
-isFresh list places lens fonts n = isString n && eqb (slotIn list places lens fonts n) 32
+isFresh list places lens fonts n = isListName n && eqb (slotIn list places lens fonts n) 32
 
 -- behind a line that may change every row, whatever the rules have reached in front of it
 pub record Told (list table places lens table′ places′ lens′ : List ℕ) (next : ℕ) (st r : State) (says : Widths → Due → LineRead) : Type 0 where

@@ -19,12 +19,12 @@ fn clear(table: &mut [u32], k: usize)
     }
 }
 
-// Whether a name may be that of the next font: a string, and of no font so far.
+// Whether a name may be that of the next font: a name of a list, and of no font so far.
 fn is_fresh(list: &[u8], places: &[u32], lens: &[u32], fonts: usize, name: &[u8]) -> bool
     requires { ⌜ (fonts ≤ length (now places)) × (fonts ≤ length (now lens)) ⌝ }
     ensures { λ r. ⌜ r ≡ isFresh (now (list .entry)) (now (places .entry)) (now (lens .entry)) fonts (now (name .entry)) ⌝ }
 {
-    let ok = scan_lex::is_string(name);
+    let ok = scan_lex::is_list_name(name);
     let k = widths_slot::slot_of(list, places, lens, fonts, name);
     ok & (k == 32)
 }

@@ -9,7 +9,7 @@ use borrow.Author.Tests.{leb-true, ltb-true}
 use lib.Dec.{eqb, leb, ltb}
 use lib.ListN.{length}
 use Rattle.rules.specs.Bytes.{bytes}
-use Rattle.rules.specs.Widths.{Line, Width, Font, Widths, Due, unitDue, blockDue, widthDue, LineRead, wrongLine, rightLine, behind, numbered, isString, isNew, mayFollow, addWidth, unitLine, byteLine, fontLine, widthLine, blockLine, lineSays, lineRead, lineOn, listEnds, linesFrom, linesSay, WidthList, unsound, sound, widthList, widthIn}
+use Rattle.rules.specs.Widths.{Line, Width, Font, Widths, Due, unitDue, blockDue, widthDue, LineRead, wrongLine, rightLine, behind, numbered, isListName, isNew, mayFollow, addWidth, unitLine, byteLine, fontLine, widthLine, blockLine, lineSays, lineRead, lineOn, listEnds, linesFrom, linesSay, WidthList, unsound, sound, widthList, widthIn}
 use Rattle.widths_table.specs.Table.{fontAt, entryFor}
 use Rattle.laws.proofs.Cases.{on, if-both, if-on, and-left, and-right}
 
@@ -41,9 +41,9 @@ unit-sane (some n) =
 
 font-sane : (w : Widths) (n : List ℕ) → Sane w → SaneRead (fontLine w n)
 font-sane w n s =
-    if-on SaneRead (isString n && (ltb (length (w .fonts)) 32 && isNew n (w .fonts))) _ _
+    if-on SaneRead (isListName n && (ltb (length (w .fonts)) 32 && isNew n (w .fonts))) _ _
     (λ e.
-    let k = ltb-true (length (w .fonts)) 32 (and-left (ltb (length (w .fonts)) 32) (isNew n (w .fonts)) (and-right (isString n) _ e)) in
+    let k = ltb-true (length (w .fonts)) 32 (and-left (ltb (length (w .fonts)) 32) (isNew n (w .fonts)) (and-right (isListName n) _ e)) in
     (s .0, s .1, omega arith, (tt, s .3)))
     (λ e. tt)
 

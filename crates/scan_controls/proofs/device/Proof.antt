@@ -6,4 +6,4 @@ pub device-spec : {M : Type 1} → statement M
 device-spec =
     tie.close
     (tie.spec
-    (λ c κs. search steps) (λ c κs. search steps) (λ c. search steps) (λ c κs. search steps) (λ c κs. search steps) (λ c. search steps))
+    (λ c κs. search steps) (λ c κs. search steps) (λ c κs. search steps) (λ c. search steps) (λ c κs. search steps) (λ c κs. search steps) (λ c. search steps))

@@ -6,4 +6,4 @@ pub file-spec : {M : Type 1} → statement M
 file-spec =
     tie.close
     (tie.spec
-    (λ c κs. search steps) (λ c κs. search steps) (λ c. search steps) (λ c κs. search steps) (λ c κs. search steps) (λ c. search steps))
+    (λ c κs. search steps) (λ c κs. search steps) (λ c κs. search steps) (λ c. search steps) (λ c κs. search steps) (λ c κs. search steps) (λ c. search steps))

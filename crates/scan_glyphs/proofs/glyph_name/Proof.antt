@@ -6,4 +6,4 @@ pub glyph-name-spec : {M : Type 1} → statement M
 glyph-name-spec =
     tie.close
     (tie.spec
-    (λ c. search steps) (λ c κs. search steps) (λ c κs. search steps) (λ c. search steps) (λ c. search steps) (λ c. search steps) (λ c. search steps))
+    (λ c. search steps) (λ c κs. search steps) (λ c κs. search steps) (λ c κs. search steps) (λ c. search steps) (λ c. search steps) (λ c. search steps) (λ c κs. search steps) (λ c. search steps))

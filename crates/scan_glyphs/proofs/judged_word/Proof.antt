@@ -6,4 +6,4 @@ pub judged-word-spec : {M : Type 1} → statement M
 judged-word-spec =
     tie.close
     (tie.spec
-    (λ c. search steps) (λ c. search steps) (λ c κs. search steps) (λ c. search steps) (λ c κs. search steps) (λ c. search steps) (λ c. search steps) (λ c. search steps) (λ c. search steps) (λ c. search steps))
+    (λ c. search steps) (λ c. search steps) (λ c κs. search steps) (λ c. search steps) (λ c κs. search steps) (λ c κs. search steps) (λ c. search steps) (λ c. search steps) (λ c. search steps) (λ c. search steps) (λ c. search steps))

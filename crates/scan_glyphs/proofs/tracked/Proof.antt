@@ -5,4 +5,5 @@ use Rattle.scan_glyphs.proofs.tracked.Tie as tie
 pub tracked-spec : {M : Type 1} → statement M
 tracked-spec =
     tie.close
-    (tie.spec (λ c. search steps) (λ c κs. search steps) (λ c. search steps) (λ c. search steps) (λ c κs. search steps) (λ c. search steps) (λ c. search steps))
+    (tie.spec
+    (λ c. search steps) (λ c κs. search steps) (λ c. search steps) (λ c. search steps) (λ c κs. search steps) (λ c κs. search steps) (λ c κs. search steps) (λ c. search steps) (λ c. search steps))
