@@ -43,17 +43,17 @@ extern "C" {
 
 /*
  * Refusal numbers. The offset of a refusal is that of the first byte of the command at fault, counted from 0 in the stream,
- * unless it is said otherwise. A refusal with a smaller number comes first at one command; in all, 1 comes first, then 2, then 12,
- * then the first command at fault, and 13 last, when nothing else is against the inputs. The reader and the
- * rewriter, which have no query, answer 1 to 11 or 13, the finder 1 to 13, and judging, which is lent no room, 1 to 11.
+ * unless it is said otherwise. A refusal with a smaller number comes first at one command, but 16 stands between 6 and 7; in all, 1
+ * comes first, then 2, then 12, then the first command at fault, and 13 last, when nothing else is against the inputs. The reader and the
+ * rewriter, which have no query, answer 1 to 11, 13 or 16, the finder 1 to 13 or 16, and judging, which is lent no room, 1 to 11 or 16.
  */
 enum {
     /* no refusal */
     MRKVANDEL_ACCEPTED = 0,
     /* the stream is over 16,777,216 bytes, the width list over 65,536 or the query over 8,192; offset 0 */
     MRKVANDEL_TOO_LONG = 1,
-    /* the width list is wrong; offset in the list: the start of its first wrong line (one without a newline is wrong), or its
-       length where a line is missing at the end */
+    /* the width list is wrong; offset in the list: the start of its first wrong line (one without a newline is wrong, and so is one
+       with a barred byte in its name, see 16), or its length where a line is missing at the end */
     MRKVANDEL_WIDTH_LIST = 2,
     /* unknown command, `D`, `DF`, `m` or `x` letter, or none */
     MRKVANDEL_UNKNOWN = 3,
@@ -77,11 +77,14 @@ enum {
     MRKVANDEL_OUT_OF_REACH = 10,
     /* no `x s`; offset: the length of the stream */
     MRKVANDEL_NO_STOP = 11,
-    /* the query is wrong; offset in the query: the start of its first wrong line (one without a newline is wrong; a last gap line is
-       that line), 0 if it is empty */
+    /* the query is wrong; offset in the query: the start of its first wrong line (one without a newline is wrong, and so is one with a
+       barred byte in its name, see 16; a last gap line is that line), 0 if it is empty */
     MRKVANDEL_QUERY = 12,
     /* a row or the buffer is too small, or the spelling is over 16,777,216 bytes; offset 0 */
-    MRKVANDEL_NO_ROOM = 13
+    MRKVANDEL_NO_ROOM = 13,
+    /* a barred byte, 0 to 8, 11 to 31 or 127, in a name or a glyph: of `c`, `C`, two digits, `x T`, `x F` and `x f`, and in a `t` or `u`
+       word. The text of `x X`, the rest of an `x` word and comments may hold any byte */
+    MRKVANDEL_BARRED_BYTE = 16
 };
 
 /* A glyph record: 40 bytes. */
@@ -123,7 +126,7 @@ typedef struct mrkvandel_read_result {
     size_t offset;           /* of a refusal, see above; 0 where nothing is refused */
     size_t records;          /* how many records were written; 0 in a refusal */
     size_t entries;          /* how many entries were written; 0 in a refusal */
-    uint32_t refusal;        /* 0 where nothing is refused, else the number of the refusal: 1 to 11 or 13 */
+    uint32_t refusal;        /* 0 where nothing is refused, else the number of the refusal: 1 to 11, 13 or 16 */
     uint32_t pages;          /* how many `p` the stream has; 0 in a refusal */
     int32_t h;               /* the position behind the last command; 0 in a refusal */
     int32_t v;
@@ -136,14 +139,14 @@ typedef struct mrkvandel_find_result {
     size_t offset;    /* of a refusal, see above; 0 where nothing is refused */
     size_t records;   /* how many records were written; 0 in a refusal */
     size_t hits;      /* how many hits were written; 0 in a refusal */
-    uint32_t refusal; /* 0 where nothing is refused, else the number of the refusal: 1 to 13 */
+    uint32_t refusal; /* 0 where nothing is refused, else the number of the refusal: 1 to 13 or 16 */
 } mrkvandel_find_result;
 
 /* The rewriter's answer: 24 bytes, the last four of them without meaning. */
 typedef struct mrkvandel_respell_result {
     size_t offset;    /* of a refusal, see above; 0 where nothing is refused */
     size_t len;       /* how many bytes the spelling has, all of them written; 0 in a refusal */
-    uint32_t refusal; /* 0 where nothing is refused, else the number of the refusal: 1 to 11 or 13 */
+    uint32_t refusal; /* 0 where nothing is refused, else the number of the refusal: 1 to 11, 13 or 16 */
 } mrkvandel_respell_result;
 
 /* What judging answers: 40 bytes. */
@@ -235,7 +238,7 @@ mrkvandel_respell_result mrkvandel_respell(const uint8_t *stream, size_t stream_
  * `records` records and one of as many hits (where nothing is against the query), the rewriter with a buffer of `spelling` bytes, or,
  * where `spelling` is MRKVANDEL_SPELLING_LIMIT + 1, with none: then the spelling is over its limit, and the rewriter refuses it as 13.
  * With less room the reader and the rewriter refuse it as 13. (All proved: `Judge` and `NoRoom` in crates/demands, `Judged` in crates/laws_answers.)
- * Refused: the reader and the rewriter refuse it with the same number and offset, whatever the room. It is 1 to 11, never 12 or 13.
+ * Refused: the reader and the rewriter refuse it with the same number and offset, whatever the room. It is 1 to 11 or 16, never 12 or 13.
  */
 mrkvandel_judge_result mrkvandel_judge(const uint8_t *stream, size_t stream_len, const uint8_t *widths, size_t widths_len);
 

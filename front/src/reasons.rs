@@ -1,4 +1,4 @@
-//! Refusals in words: the reason of 01's table, what it is about, and where.
+//! Refusals in words: the reason of 01's table, or of 02 for 16, what it is about, and where.
 
 use library::{LIST_LIMIT, QUERY_LIMIT, STREAM_LIMIT};
 
@@ -7,7 +7,7 @@ const WIDTH_LIST: u32 = 2;
 const QUERY: u32 = 12;
 
 /// Every refusal number with its reason, for the help.
-pub const REASONS: [(u32, &str); 13] = [
+pub const REASONS: [(u32, &str); 14] = [
     (TOO_LONG, "stream over 16,777,216 bytes, width list over 65,536 or query over 8,192"),
     (WIDTH_LIST, "width list: a line is wrong or missing"),
     (3, "unknown command, `D`, `DF`, `m` or `x` letter, or none"),
@@ -25,9 +25,10 @@ pub const REASONS: [(u32, &str); 13] = [
     (11, "no `x s`"),
     (QUERY, "query: a line is wrong, or there is none"),
     (13, "the spelling is over 16,777,216 bytes"),
+    (16, "byte 0 to 8, 11 to 31 or 127 in a name, a glyph or a word"),
 ];
 
-/// A refusal: its number in 01's table and its offset.
+/// A refusal: its number in 01's table, or 16 of 02, and its offset.
 #[derive(Clone, Copy, Debug, PartialEq, Eq)]
 pub struct Refusal {
     pub number: u32,
@@ -134,7 +135,7 @@ mod tests {
     #[test]
     fn every_number_has_its_reason() {
         let numbers: Vec<u32> = REASONS.iter().map(|(number, _)| *number).collect();
-        assert_eq!(numbers, (1..=13).collect::<Vec<u32>>());
+        assert_eq!(numbers, (1..=13).chain([16]).collect::<Vec<u32>>());
     }
 
     #[test]

@@ -47,6 +47,7 @@ fn assert_json(folder: &Folder, number: u32, offset: usize, at: (usize, usize), 
 fn refusals_of_the_stream() {
     let folder = Folder::new("refusals-stream");
     let outside = "number, count, name or text outside its limit";
+    let barred = "byte 0 to 8, 11 to 31 or 127 in a name, a glyph or a word";
     let text = format!("x X\n+{}", "q".repeat(4096));
     // a fragment of a body, which begins in line 8, and its refusal: number, offset in it, reason
     let cases = [
@@ -56,6 +57,8 @@ fn refusals_of_the_stream() {
         ("mg 65537", 6, 3, outside),
         ("h1 Dc 5 100000000", 6, 8, outside),
         (&text, 6, 3, outside),
+        ("h1 ta\u{7f}", 16, 3, barred),
+        ("x F name\r", 16, 0, barred),
         ("f2", 8, 0, "`f` to an unmounted position; glyph or `N` without current font and size"),
         ("ta tz", 9, 3, "no width for a byte of `t` or `u`"),
         ("H99999999h1", 10, 9, "h or v beyond 99,999,999 either way"),
@@ -87,6 +90,8 @@ fn refusals_of_the_width_list() {
     let reason = "width list: a line is wrong or missing";
     folder.put("widths", b"unitwidth=1000\nfnt=TR\n");
     assert_refused(&folder, 2, 15, (2, 1), "widths", reason);
+    folder.put("widths", b"unitwidth=1000\nfont=TR\r\n");
+    assert_refused(&folder, 2, 15, (2, 1), "widths", reason);
     let short = WIDTHS.strip_suffix(b"width=50\n").expect("the sample ends so");
     folder.put("widths", short);
     assert_refused(&folder, 2, short.len(), (6, 1), "widths", reason);
@@ -101,6 +106,8 @@ fn refusals_of_the_query() {
     folder.put("query", b"glyph=a\nglyph=\n");
     assert_refused(&folder, 12, 8, (2, 1), "query", reason);
     folder.put("query", b"glyph=a\ngap=any\n");
+    assert_refused(&folder, 12, 8, (2, 1), "query", reason);
+    folder.put("query", b"glyph=a\nglyph=\x7f\n");
     assert_refused(&folder, 12, 8, (2, 1), "query", reason);
     folder.put("query", b"");
     assert_refused(&folder, 12, 0, (1, 1), "query", reason);

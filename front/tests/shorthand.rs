@@ -83,14 +83,18 @@ fn the_page_of_a_hit() {
     }
 }
 
-/// Every byte of a name can be asked for.
+/// Every byte of a name can be asked for; a barred one is in no name, and makes the query 12.
 #[test]
 fn a_glyph_of_any_byte() {
     let folder = Folder::new("any-byte");
     for byte in (0..=255_u8).filter(|byte| !b"\t\n ".contains(byte)) {
         folder.put("stream", &[&body("")[..55], b"c", &[byte], b"\nx stop\n"].concat());
         let ran = folder.run(&["find", "-w", "widths", "-e", &format!("\\x{byte:02x}"), "stream"]);
-        ran.assert(0, "hit 0\nfound 1 1\n", "");
+        if matches!(byte, 0..=8 | 11..=31 | 127) {
+            assert_eq!((ran.status, ran.text()), (1, "refused 12 0\n"), "{byte}");
+        } else {
+            ran.assert(0, "hit 0\nfound 1 1\n", "");
+        }
     }
 }
 

@@ -28,7 +28,7 @@ fn help_names_every_option_command_status_and_refusal() {
     for shape in shapes {
         assert!(ran.text().contains(&format!("{{\"type\":\"{shape}\"")), "{shape} is missing");
     }
-    for number in 1..=13 {
+    for number in (1..=13).chain([16]) {
         let starts = |line: &str| line.starts_with(&format!("{number:>4}  "));
         assert!(ran.text().lines().any(starts), "refusal {number} is missing");
     }

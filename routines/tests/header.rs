@@ -56,7 +56,7 @@ fn layouts() -> [Layout; 7] {
     ]
 }
 
-const VALUES: [(&str, usize); 18] = [
+const VALUES: [(&str, usize); 19] = [
     ("ACCEPTED", 0),
     ("TOO_LONG", refusal::TOO_LONG as usize),
     ("WIDTH_LIST", refusal::WIDTH_LIST as usize),
@@ -71,6 +71,7 @@ const VALUES: [(&str, usize); 18] = [
     ("NO_STOP", refusal::NO_STOP as usize),
     ("QUERY", refusal::QUERY as usize),
     ("NO_ROOM", refusal::NO_ROOM as usize),
+    ("BARRED_BYTE", refusal::BARRED_BYTE as usize),
     ("STREAM_LIMIT", refusal::STREAM_LIMIT),
     ("LIST_LIMIT", refusal::LIST_LIMIT),
     ("QUERY_LIMIT", refusal::QUERY_LIMIT),
