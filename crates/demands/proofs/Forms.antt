@@ -9,14 +9,14 @@ use lib.Dec.{leb}
 use lib.ListN.{length}
 use borrow.Author.Tests.{le-leb, lt-leb, leb-true}
 use Rattle.rules.specs.Bytes.{isSpace, isNotWhite, isNotNewline, isDigit, most, origin, within, near}
-use Rattle.rules.specs.Act.{across, down, Act, glyph, index, to, by, page, font, size, Cmd, just, word, pair}
-use Rattle.rules.specs.Scan.{nameIn, letter, Scan, got, bad, cleared, command}
+use Rattle.rules.specs.Act.{across, down, Act, glyph, index, to, by, page, font, size, just, word, pair}
+use Rattle.rules.specs.Scan.{letter, got, bad, cleared, command}
 use Rattle.rules.specs.Record.{shown}
 use Rattle.rules.specs.House.{signedDecimal}
-use Rattle.laws.specs.Barred.{Barred, NoBarred, SomeBarred}
+use Rattle.laws.specs.Barred.{Barred, SomeBarred}
 use Rattle.laws.proofs.Cases.{All, Stops, on}
-use Rattle.laws.proofs.Clear.{none-clear, some-unclear}
 use Rattle.laws.proofs.Good.{allTrue}
+use Rattle.laws_arguments.proofs.Names.{cleared-none, cleared-some}
 use Rattle.laws_find.specs.Written.{White, NoWhite, GoodName}
 use Rattle.laws_find.proofs.Written.{not-white-false}
 use Rattle.laws_print.proofs.Forms as print
@@ -57,13 +57,6 @@ number-stops (b ∷ t) h =
 
 -- ---- the forms
 
--- a command whose name is clear, and one whose name is not
-clear-got : (c : Cmd) (a l : ℕ) (x : Scan) → NoBarred (nameIn c) → x ≡ cleared c a l → x ≡ got c a l
-clear-got c a l x h e = e ∙ rw (none-clear (nameIn c) h)
-
-barred-16 : (c : Cmd) (a l : ℕ) (x : Scan) → SomeBarred (nameIn c) → x ≡ cleared c a l → x ≡ bad 16 0
-barred-16 c a l x h e = e ∙ rw (some-unclear (nameIn c) h)
-
 -- a barred byte is no whitespace
 barred-not-white : (b : ℕ) → Barred b → White b → ⊥
 barred-not-white b (inl h) (inl e) = omega arith
@@ -98,37 +91,37 @@ by-digits d e k l b t p q h m w = print.by-digits d e k l b t p q (spacer-all k 
 
 good-C : (k n t : List ℕ) → Spacer k → GoodName n → LineBreak t → command 67 (k ++ (n ++ t)) ≡ got (just (glyph n)) (1 + length k) (1 + length k + length n)
 good-C k [] t h g e = absurd (let z : 1 ≤ 0 = g .some in omega arith)
-good-C k (b ∷ n) t h g e = clear-got (just (glyph (b ∷ n))) _ _ _ (g .no-barred) (by-C k b n t h (g .no-white) (g .few) e)
+good-C k (b ∷ n) t h g e = by-C k b n t h (g .no-white) (g .few) e ∙ cleared-none (just (glyph (b ∷ n))) _ _ (g .no-barred)
 
 pub five-forms : FiveForms
 five-forms = record {
-  by-c = λ k b t h w f. clear-got (just (glyph (b ∷ []))) _ _ _ (f, tt) (by-c k b t h w);
+  by-c = λ k b t h w f. by-c k b t h w ∙ cleared-none (just (glyph (b ∷ []))) _ _ (f, tt);
   by-C = good-C;
-  by-t = λ k b bs t h g f e. clear-got (word origin (b ∷ bs)) _ _ _ f (by-t k b bs t h g e);
-  by-u = λ k n c l b bs t h i m g f e. clear-got (word n (b ∷ bs)) _ _ _ f (by-u k n c l b bs t h i m g e);
-  by-digits = λ d e k l b t p q h m w f. clear-got (pair (origin + (10 * d + e)) b) _ _ _ (f, tt) (by-digits d e k l b t p q h m w);
+  by-t = λ k b bs t h g f e. by-t k b bs t h g e ∙ cleared-none (word origin (b ∷ bs)) _ _ f;
+  by-u = λ k n c l b bs t h i m g f e. by-u k n c l b bs t h i m g e ∙ cleared-none (word n (b ∷ bs)) _ _ f;
+  by-digits = λ d e k l b t p q h m w f. by-digits d e k l b t p q h m w ∙ cleared-none (pair (origin + (10 * d + e)) b) _ _ (f, tt);
 }
 
 barred-C : (k n t : List ℕ) → Spacer k → NoWhite n → length n ≤ 64 → SomeBarred n → LineBreak t → command 67 (k ++ (n ++ t)) ≡ bad 16 0
 barred-C k [] t h g l f e = absurd f
-barred-C k (b ∷ n) t h g l f e = barred-16 (just (glyph (b ∷ n))) _ _ _ f (by-C k b n t h g l e)
+barred-C k (b ∷ n) t h g l f e = by-C k b n t h g l e ∙ cleared-some (just (glyph (b ∷ n))) _ _ f
 
 barred-t : (k bs t : List ℕ) → Spacer k → NoWhite bs → SomeBarred bs → LineBreak t → command 116 (k ++ (bs ++ t)) ≡ bad 16 0
 barred-t k [] t h g f e = absurd f
-barred-t k (b ∷ bs) t h g f e = barred-16 (word origin (b ∷ bs)) _ _ _ f (by-t k b bs t h g e)
+barred-t k (b ∷ bs) t h g f e = by-t k b bs t h g e ∙ cleared-some (word origin (b ∷ bs)) _ _ f
 
 barred-u : (k : List ℕ) (n c : ℕ) (l bs t : List ℕ) → Spacer k → InLimit (shown n) → Spacer (c ∷ l) → NoWhite bs → SomeBarred bs → LineBreak t
     → command 117 (k ++ (signedDecimal n ++ (c ∷ l ++ (bs ++ t)))) ≡ bad 16 0
 barred-u k n c l [] t h i m g f e = absurd f
-barred-u k n c l (b ∷ bs) t h i m g f e = barred-16 (word n (b ∷ bs)) _ _ _ f (by-u k n c l b bs t h i m g e)
+barred-u k n c l (b ∷ bs) t h i m g f e = by-u k n c l b bs t h i m g e ∙ cleared-some (word n (b ∷ bs)) _ _ f
 
 pub barred-forms : BarredForms
 barred-forms = record {
-  by-c = λ k b t h f. barred-16 (just (glyph (b ∷ []))) _ _ _ (inl f) (by-c k b t h (barred-not-white b f));
+  by-c = λ k b t h f. by-c k b t h (barred-not-white b f) ∙ cleared-some (just (glyph (b ∷ []))) _ _ (inl f);
   by-C = barred-C;
   by-t = barred-t;
   by-u = barred-u;
-  by-digits = λ d e k l b t p q h m f. barred-16 (pair (origin + (10 * d + e)) b) _ _ _ (inl f) (by-digits d e k l b t p q h m (barred-not-white b f));
+  by-digits = λ d e k l b t p q h m f. by-digits d e k l b t p q h m (barred-not-white b f) ∙ cleared-some (pair (origin + (10 * d + e)) b) _ _ (inl f);
 }
 
 near-one : (n : ℕ) → near n ≡ true → allTrue (near n ∷ []) ≡ true

@@ -43,7 +43,7 @@ use Rattle.laws_motion.specs.Records.{Recorded, letters, isSome, Entered, Setti
 use Rattle.laws_motion.specs.Runs.{InEveryRun, InEveryList}
 use Rattle.laws_motion.specs.Needs.{Phases, Reasons}
 use Rattle.laws_offsets.specs.Frame.{NoFraming}
-use Rattle.laws_offsets.specs.Lists.{FontLines}
+use Rattle.laws_offsets.specs.Lists.{NoNewline, FontLines}
 use Rattle.laws_offsets.specs.Offsets.{ReadOffset, FindOffset, OrRoom, Said}
 use Rattle.laws_house.specs.Lines.{HouseText}
 use Rattle.laws_needed.specs.Statement.{OnlyWhereItDiffers}
@@ -60,10 +60,6 @@ pub record SoundList (list : List ℕ) (w : Widths) : Type 0 where
 abbrev pub LineBreak : List ℕ → Type 0
 LineBreak [] = Unit {0}
 LineBreak (b ∷ t) = b ≡ 10
-
-abbrev pub NoNewline : List ℕ → Type 0
-NoNewline [] = Unit {0}
-NoNewline (b ∷ k) = (b ≡ 10 → ⊥) × NoNewline k
 
 -- the bytes are these commands, each written as 01 has it, within its limits and (2026-06) with no barred byte in a name, with whitespace
 -- and comments before, between and behind them: "`#`, where a command or a line break could stand, starts a comment up to the newline"

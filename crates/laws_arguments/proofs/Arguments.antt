@@ -15,16 +15,14 @@ use Rattle.laws.proofs.Cases.{no}
 use Rattle.laws.proofs.Clear.{cleared-both}
 use Rattle.laws_scan.specs.Texts.{Spacer}
 use Rattle.laws_scan.proofs.Bounds.{bad-place}
+use Rattle.laws_scan.proofs.Faults.{FaultIn, letter-fault}
 use Rattle.laws_arguments.specs.Arguments.{Argument, ArgumentWithin, AllWithin, argumentsOf, ArgumentIs, Laid, OutsideAt, PointsAtArgument}
 use Rattle.laws_arguments.proofs.Limits.{Agree, agree, isSome, none-found, all-in}
 use Rattle.laws_arguments.proofs.Places.{Begins, LaidAt, nothing-laid, one-more-laid}
 use Rattle.laws_arguments.proofs.Counts.{command-count}
 use Rattle.laws_arguments.proofs.Letters.{LaidOut, Unlaid, unlaid-within, DraftLaid, letter-laid}
+use Rattle.laws_arguments.proofs.Names.{numberIn}
 use Rattle.laws_arguments.proofs.OnePlace.{all-behind, all-written, one-place-at}
-
-abbrev numberIn : Scan → ℕ
-numberIn (got c a l) = 0
-numberIn (bad n k) = n
 
 abbrev placeIn : Scan → ℕ
 placeIn (got c a l) = 0
@@ -114,9 +112,9 @@ skipped (true ∷ ps) (u ∷ us) ys (i ∷ vs) js e h g =
 
 -- ---- a command
 
-points-at : (b : ℕ) (r : List ℕ) (k : ℕ) (x : Draft) → letter b r ≡ x → DraftLaid b r x → judged x ≡ bad 6 k → OutsideAt b r k
-points-at b r k (fault n) e h j = absurd (h (ap numberIn j))
-points-at b r k (draft c ds ks a l t) e h j = go (outside ps ks) refl j
+points-at : (b : ℕ) (r : List ℕ) (k : ℕ) (x : Draft) → letter b r ≡ x → FaultIn x → DraftLaid b r x → judged x ≡ bad 6 k → OutsideAt b r k
+points-at b r k (fault n) e i h j = absurd (omega (arith, i, ap numberIn j))
+points-at b r k (draft c ds ks a l t) e i h j = go (outside ps ks) refl j
   where
     ps : List Bool
     ps = cmdLimits c ++ map isSmall ds
@@ -178,11 +176,11 @@ given-at b r k o = go (outside (cmdLimits c ++ map isSmall ds) (o .places)) refl
         absurd (o .outside (all-behind (o .before) (o .argument) (o .after) (subst AllWithin (o .order) (all-written b (argumentsOf c ds) all))))
     go (some j) f =
         let e : command b r ≡ bad 6 j = ap judged (o .complete) ∙ ap (judgedBy c (o .name) (o .len)) f in
-        e ∙ ap (bad 6) (one-place-at b r j k (points-at b r j (letter b r) refl (letter-laid b r) e) o)
+        e ∙ ap (bad 6) (one-place-at b r j k (points-at b r j (letter b r) refl (letter-fault b r) (letter-laid b r) e) o)
 
 pub pointsAtArgument : PointsAtArgument
 pointsAtArgument = record {
-  points = λ b r k j. points-at b r k (letter b r) refl (letter-laid b r) j;
+  points = λ b r k j. points-at b r k (letter b r) refl (letter-fault b r) (letter-laid b r) j;
   given = given-at;
   others = bad-place;
   count = command-count;

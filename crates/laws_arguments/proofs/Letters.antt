@@ -21,7 +21,7 @@ use Rattle.laws_scan.proofs.Fair.{counted}
 use Rattle.laws_scan.proofs.Ignored.{spacer-of}
 use Rattle.laws_arguments.specs.Arguments.{Argument, a-name, a-word, a-text, AllWithin, anyNumber, position, actArguments, argumentsOf, writtenBy, NoSpace, CommandLetters, one-letter, of-m, of-D, of-DF, of-x, TextIs, text-ends, one-byte, next-line}
 use Rattle.laws_arguments.proofs.Places.{Begins, LaidAt, one-laid, integers-laid, no-white-of, white-behind}
-use Rattle.laws_arguments.proofs.Stands.{NoText, Like, like-component, like-plain, NotSix, three, four, five, From, nothing-from, ignoring-from, dummy-from, one-from, all-from, resolution-from, named-from, number-named, drawn-from}
+use Rattle.laws_arguments.proofs.Stands.{NoText, Like, like-component, like-plain, From, nothing-from, ignoring-from, dummy-from, one-from, all-from, resolution-from, named-from, number-named, drawn-from}
 
 -- ---- a command: its letters, and its arguments
 
@@ -53,14 +53,13 @@ pub unlaid-within : (b : ℕ) (xs : List Argument) → Unlaid b xs → AllWithin
 unlaid-within b xs (inl e) = rw e tt
 unlaid-within b xs (inr h) = h .1
 
--- no refusal of this layer is 6
 abbrev pub DraftLaid : ℕ → List ℕ → Draft → Type 0
-DraftLaid b r (fault n) = NotSix n
+DraftLaid b r (fault n) = Unit {0}
 DraftLaid b r (draft c ds ks a l t) = Unlaid b (argumentsOf c ds) ⊎ LaidOut b r (argumentsOf c ds) ks
 
 closed-laid : (b : ℕ) (r : List ℕ) (x : Draft) → DraftLaid b r x → DraftLaid b r (closed x)
 closed-laid b r (fault n) h = h
-closed-laid b r (draft c ds ks a l t) h = if-both (DraftLaid b r) (lineEnds t) (draft c ds ks a l t) (fault 5) h five
+closed-laid b r (draft c ds ks a l t) h = if-both (DraftLaid b r) (lineEnds t) (draft c ds ks a l t) (fault 5) h tt
 
 laid-out : (b : ℕ) (r letters arguments : List ℕ) (us : List Argument) (vs : List ℕ) (k : ℕ) (x : Draft) → b ∷ r ≡ letters ++ arguments → CommandLetters letters arguments → length us ≡ length vs
     → AllWithin us → ((xs : List Argument) → writtenBy b (us ++ xs) ≡ xs) → k ≡ length letters → From k arguments us vs x → DraftLaid b r x
@@ -142,7 +141,7 @@ coloured-laid P f k (b ∷ r) e n h = go (schemeOf b) (scheme-known b)
 colour-laid : (r : List ℕ) → DraftLaid 109 r (coloured colour (1 + spacer r) (unspaced r))
 colour-laid r =
     let s : List ℕ = take (spacer r) r in
-    coloured-laid (DraftLaid 109 r) colour (1 + spacer r) (unspaced r) (λ c ns. like-component ns) three (λ c t x e v h.
+    coloured-laid (DraftLaid 109 r) colour (1 + spacer r) (unspaced r) (λ c ns. like-component ns) tt (λ c t x e v h.
     laid-out 109 r (109 ∷ (s ++ (c ∷ []))) t [] [] (1 + spacer r + 1) x (ap (_∷_ 109) (split r (c ∷ t) e ∙ sym (append-assoc s (c ∷ []) t))) (of-m s c t (spacer-of s (all-span isSpace r)) v)
     refl tt (λ xs. refl) (omega (arith, length-span isSpace r, length-append s (c ∷ []))) h)
 
@@ -155,11 +154,11 @@ drawing-laid r = go (unspaced r) refl
     s = take (spacer r) r
 
     go : (w : List ℕ) → unspaced r ≡ w → DraftLaid 68 r (drawing (1 + spacer r) w)
-    go [] e = three
+    go [] e = tt
     go (b ∷ t) e =
         let s₂ : List ℕ = take (spacer t) t in
         if-on (DraftLaid 68 r) (is "F" b) _ _
-        (λ f. coloured-laid (DraftLaid 68 r) (λ c. draw (colourFill c)) (1 + spacer r + 1 + spacer t) (unspaced t) (λ c ns. like-component ns) three (λ c v x d w h.
+        (λ f. coloured-laid (DraftLaid 68 r) (λ c. draw (colourFill c)) (1 + spacer r + 1 + spacer t) (unspaced t) (λ c ns. like-component ns) tt (λ c v x d w h.
         let whole : r ≡ (s ++ (70 ∷ (s₂ ++ (c ∷ [])))) ++ v = split r (b ∷ t) e ∙ ap (λ (i : ℕ). s ++ (i ∷ t)) (eqb-true b 70 f) ∙ ap (λ (y : List ℕ). s ++ (70 ∷ y)) (split t (c ∷ v) d ∙ sym (append-assoc s₂ (c ∷ []) v))
         ∙ sym (append-assoc s (70 ∷ (s₂ ++ (c ∷ []))) v) in
         laid-out 68 r (68 ∷ (s ++ (70 ∷ (s₂ ++ (c ∷ []))))) v [] [] (1 + spacer r + 1 + spacer t + 1) x (ap (_∷_ 68) whole)
@@ -168,7 +167,7 @@ drawing-laid r = go (unspaced r) refl
         (λ f. shaped (λ z. no (sym f ∙ ap (is "F") z)) (shapeOf b) (shape-known b))
       where
         shaped : (b ≡ 70 → ⊥) → (o : Option Shape) → Known b o → DraftLaid 68 r (inShape (1 + spacer r + 1) t o)
-        shaped f none g = three
+        shaped f none g = tt
         shaped f (some x) g =
             laid-out 68 r (68 ∷ (s ++ (b ∷ []))) t [] [] (1 + spacer r + 1) (drawn x (1 + spacer r + 1) t (formOf x)) (ap (_∷_ 68) (split r (b ∷ t) e ∙ sym (append-assoc s (b ∷ []) t)))
             (of-D s b t (spacer-of s (all-span isSpace r)) g f) refl tt (λ xs. refl) (omega (arith, length-span isSpace r, length-append s (b ∷ []))) (drawn-from (1 + spacer r + 1) t x (formOf x))
@@ -253,19 +252,19 @@ module _ (r letters arguments : List ℕ) (bytes : 120 ∷ r ≡ letters ++ argu
       (if-both P (is "t" b) _ _ (plain-laid trailer)
       (if-both P (is "u" b) _ _ (plain-laid underline)
       (if-both P (is "s" b) _ _ (alone-laid stop refl)
-      (if-both P (is "X" b) _ _ text-laid three)))))))))))
+      (if-both P (is "X" b) _ _ text-laid tt)))))))))))
 
 word-laid : (r : List ℕ) → DraftLaid 120 r (controlWord (1 + spacer r) (unspaced r))
 word-laid r = go (unspaced r) refl
   where
     go : (w : List ℕ) → unspaced r ≡ w → DraftLaid 120 r (controlWord (1 + spacer r) w)
-    go [] e = three
+    go [] e = tt
     go (b ∷ w) e =
         let s : List ℕ = take (spacer r) r in
         let v : List ℕ = b ∷ take (string w) w in
         let t : List ℕ = drop (string w) w in
         let whole : r ≡ (s ++ v) ++ t = split r (b ∷ w) e ∙ ap (λ (y : List ℕ). s ++ (b ∷ y)) (sym (take-append-drop (string w) w)) ∙ sym (append-assoc s v t) in
-        if-on (DraftLaid 120 r) (isWhite b) (fault 3) _ (λ z. three) (λ z.
+        if-on (DraftLaid 120 r) (isWhite b) (fault 3) _ (λ z. tt) (λ z.
         control-laid r (120 ∷ (s ++ v)) t (ap (_∷_ 120) whole)
         (of-x s v t (spacer-of s (all-span isSpace r)) (omega arith) (no-white-of v (rw z, all-span isNotWhite w)) (white-behind t (drop-span isNotWhite w)))
         (1 + spacer r + 1 + string w) (omega (arith, length-span isSpace r, length-span isNotWhite w, length-append s v)) b)
@@ -274,17 +273,17 @@ word-laid r = go (unspaced r) refl
 
 -- a name of one byte is within its limit
 byte-laid : (b k : ℕ) (r t : List ℕ) → b ≡ 99 → DraftLaid b r (oneByte (λ x. just (glyph (x ∷ []))) k t)
-byte-laid b k r [] e = four
-byte-laid b k r (c ∷ t) e = if-both (DraftLaid b r) (isWhite c) (fault 4) _ four (inl (inr (e, (omega arith, tt))))
+byte-laid b k r [] e = tt
+byte-laid b k r (c ∷ t) e = if-both (DraftLaid b r) (isWhite c) (fault 4) _ tt (inl (inr (e, (omega arith, tt))))
 
 -- a pair has no argument with a limit
 pair-laid : (b n k : ℕ) (r t : List ℕ) → DraftLaid b r (oneByte (pair n) k t)
-pair-laid b n k r [] = four
-pair-laid b n k r (c ∷ t) = if-both (DraftLaid b r) (isWhite c) (fault 4) _ four (inl (inl refl))
+pair-laid b n k r [] = tt
+pair-laid b n k r (c ∷ t) = if-both (DraftLaid b r) (isWhite c) (fault 4) _ tt (inl (inl refl))
 
 digit-laid : (b k : ℕ) (r t : List ℕ) → DraftLaid b r (secondDigit b k t)
-digit-laid b k r [] = four
-digit-laid b k r (c ∷ t) = if-both (DraftLaid b r) (isDigit c) _ (fault 4) (pair-laid b (origin + ((b - 48) * 10 + (c - 48))) (k + 1 + spacer t) r (unspaced t)) four
+digit-laid b k r [] = tt
+digit-laid b k r (c ∷ t) = if-both (DraftLaid b r) (isDigit c) _ (fault 4) (pair-laid b (origin + ((b - 48) * 10 + (c - 48))) (k + 1 + spacer t) r (unspaced t)) tt
 
 -- n is none of the letters that have more behind them
 abbrev Single : ℕ → Type 0
@@ -329,4 +328,4 @@ letter-laid b r =
     if-both P (is "w" b) _ _ (inl (inl refl))
     (if-on P (is "D" b) _ _ (λ e. rw (eqb-true b 68 e) (closed-laid 68 r (drawing (1 + spacer r) (unspaced r)) (drawing-laid r))) (λ z.
     if-on P (is "x" b) _ _ (λ e. rw (eqb-true b 120 e) (word-laid r)) (λ z.
-    if-both P (isDigit b) _ _ (digit-laid b (1 + spacer r) r (unspaced r)) three)))))))))))))))))
+    if-both P (isDigit b) _ _ (digit-laid b (1 + spacer r) r (unspaced r)) tt)))))))))))))))))

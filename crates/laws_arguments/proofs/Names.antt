@@ -98,7 +98,7 @@ in-limits c ds ks a l t h = ap (judgedBy c a l) (none-found (cmdLimits c ++ map 
 within-of : (c : Cmd) (ds : List Num) (ks : List ℕ) → limitsOf c ds ks ≡ none → AllWithin (argumentsOf c ds)
 within-of c ds ks e = all-in (cmdLimits c ++ map isSmall ds) (argumentsOf c ds) ks (agree c ds) e
 
-abbrev numberIn : Scan → ℕ
+abbrev pub numberIn : Scan → ℕ
 numberIn (got c a l) = 0
 numberIn (bad n k) = n
 
@@ -121,13 +121,20 @@ barred-in b r k (draft c ds ks a l t) e f j = go (limitsOf c ds ks) refl j
           barred = rw (names-are c ds) (on (isClear (nameIn c)) (λ h. let z : got c a l ≡ bad 16 k = rw h at q in absurd (omega (arith, ap numberIn z))) (λ h. unclear-some (nameIn c) h));
         }
 
+-- the stage by the bytes of the name
+pub cleared-none : (c : Cmd) (a l : ℕ) → NoBarred (nameIn c) → cleared c a l ≡ got c a l
+cleared-none c a l h = rw (none-clear (nameIn c) h)
+
+pub cleared-some : (c : Cmd) (a l : ℕ) → SomeBarred (nameIn c) → cleared c a l ≡ bad 16 0
+cleared-some c a l h = rw (some-unclear (nameIn c) h)
+
 given-16 : (b : ℕ) (r : List ℕ) → BarredIn b r → command b r ≡ bad 16 0
 given-16 b r o =
     ap judged (o .complete) ∙ in-limits (o .cmd) (o .dummies) (o .places) (o .name) (o .len) (o .rest) (o .within)
-    ∙ rw (some-unclear (nameIn (o .cmd)) (subst SomeBarred (names-are (o .cmd) (o .dummies)) (o .barred)))
+    ∙ cleared-some (o .cmd) (o .name) (o .len) (subst SomeBarred (names-are (o .cmd) (o .dummies)) (o .barred))
 
 accepted-clear : (b : ℕ) (r : List ℕ) (c : Cmd) (ds : List Num) (ks : List ℕ) (a l : ℕ) (t : List ℕ) → letter b r ≡ draft c ds ks a l t → AllWithin (argumentsOf c ds) → NoBarred (namedBytes c ds) → command b r ≡ got c a l
-accepted-clear b r c ds ks a l t e h g = ap judged e ∙ in-limits c ds ks a l t h ∙ rw (none-clear (nameIn c) (subst NoBarred (names-are c ds) g))
+accepted-clear b r c ds ks a l t e h g = ap judged e ∙ in-limits c ds ks a l t h ∙ cleared-none c a l (subst NoBarred (names-are c ds) g)
 
 got-clear : (c : Cmd) (ds : List Num) (ks : List ℕ) (a l : ℕ) (t : List ℕ) → judged (draft c ds ks a l t) ≡ got c a l → AllWithin (argumentsOf c ds) × NoBarred (namedBytes c ds)
 got-clear c ds ks a l t j = go (limitsOf c ds ks) refl j

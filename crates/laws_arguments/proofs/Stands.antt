@@ -133,20 +133,6 @@ like-plain height ns = like-any ns
 like-plain slant ns = like-any ns
 like-plain underline ns = like-numbers origin 100_000_001 ns
 
--- ---- refusals of this layer
-
-abbrev pub NotSix : ℕ → Type 0
-NotSix n = n ≡ 6 → ⊥
-
-pub three : NotSix 3
-three e = absurd (omega (arith, e))
-
-pub four : NotSix 4
-four e = absurd (omega (arith, e))
-
-pub five : NotSix 5
-five e = absurd (omega (arith, e))
-
 -- ---- behind the letters
 
 -- The arguments of a command, from r at k up to t at l: the first of them are not written, with stand-ins for their places.
@@ -159,7 +145,7 @@ pub record Argued (k : ℕ) (r : List ℕ) (unwritten : List Argument) (stand-in
   pub laid : LaidAt k r xs js l t
 
 abbrev pub From : ℕ → List ℕ → List Argument → List ℕ → Draft → Type 0
-From k r us vs (fault n) = NotSix n
+From k r us vs (fault n) = Unit {0}
 From k r us vs (draft c ds ks a l t) = Argued k r us vs c ds ks l t
 
 -- no number of it is ignored
@@ -169,7 +155,7 @@ none-ignored c xs e = append-nil (cmdArguments c) ∙ e
 module _ (k : ℕ) (r : List ℕ) where
   pub ignoring-from : (us : List Argument) (vs : List ℕ) (c : Cmd) (ds : List Num) (ks : List ℕ) (a l : ℕ) (t : List ℕ) (x : Nums)
       → Argued k r us vs c ds ks l t → NumsLaid l t x → From k r us vs (ignoring (draft c ds ks a l t) x)
-  ignoring-from us vs c ds ks a l t short h g = four
+  ignoring-from us vs c ds ks a l t short h g = tt
   ignoring-from us vs c ds ks a l t (nums ns js m v) h g =
       let ys : List Argument = map a-dummy ns in
       record {
@@ -206,20 +192,20 @@ module _ (k : ℕ) (r : List ℕ) where
   nothing-from c e = numbers-from c [] [] k r (rw e tt) (refl, refl)
 
   pub one-from : (f : ℕ → Act) (x : Nums) → ((n : Num) → Like (actArguments (f (moved n))) (n ∷ [])) → NumsAre (λ ns. length ns ≡ 1) x → NumsLaid k r x → From k r [] [] (withOne f x)
-  one-from f short e c h = four
-  one-from f (nums [] ks l t) e c h = four
+  one-from f short e c h = tt
+  one-from f (nums [] ks l t) e c h = tt
   one-from f (nums (n ∷ m ∷ ns) ks l t) e c h = absurd (omega (arith, c))
   one-from f (nums (n ∷ []) ks l t) e c h = numbers-from (just (f (moved n))) (n ∷ []) ks l t (e n) h
 
   pub all-from : (f : List ℕ → Act) (x : Nums) → ((ns : List Num) → Like (actArguments (f (map moved ns))) ns) → NumsLaid k r x → From k r [] [] (withAll f x)
-  all-from f short e h = four
+  all-from f short e h = tt
   all-from f (nums ns ks l t) e h = numbers-from (just (f (map moved ns))) ns ks l t (e ns) h
 
   pub resolution-from : (x : Nums) → NumsAre (λ ns. length ns ≡ 3) x → NumsLaid k r x → From k r [] [] (resolutionOf x)
-  resolution-from short c h = four
-  resolution-from (nums [] ks l t) c h = four
-  resolution-from (nums (n ∷ []) ks l t) c h = four
-  resolution-from (nums (n ∷ m ∷ []) ks l t) c h = four
+  resolution-from short c h = tt
+  resolution-from (nums [] ks l t) c h = tt
+  resolution-from (nums (n ∷ []) ks l t) c h = tt
+  resolution-from (nums (n ∷ m ∷ []) ks l t) c h = tt
   resolution-from (nums (n ∷ m ∷ v ∷ o ∷ ns) ks l t) c h = absurd (omega (arith, c))
   resolution-from (nums (n ∷ m ∷ v ∷ []) ks l t) c h = numbers-from _ (n ∷ m ∷ v ∷ []) ks l t (refl, (refl, (refl, tt))) h
 
@@ -232,7 +218,7 @@ module _ (k : ℕ) (r : List ℕ) where
       let u : List ℕ = unspaced t in
       let a : ℕ = l + spacer t in
       let n : List ℕ = take (string u) u in
-      if-on (From k r us vs) (eqb (string u) 0) (fault 4) _ (λ z. four) (λ z.
+      if-on (From k r us vs) (eqb (string u) 0) (fault 4) _ (λ z. tt) (λ z.
       record {
         xs = xs ++ (g n ∷ []);
         js = js ++ (a ∷ []);
@@ -245,8 +231,8 @@ module _ (k : ℕ) (r : List ℕ) where
   pub number-named : (f : ℕ → List ℕ → Cmd) (q : ℕ → Argument) (g : List ℕ → Argument) (x : Nums) → ((m : ℕ) (n : List ℕ) → cmdArguments (f m n) ≡ q m ∷ (g n ∷ []))
       → ((m : Num) → Numbered (q (moved m)) m) → ((n w v : List ℕ) → StringIs n w v → ArgumentIs (g n) w v) → ((n : List ℕ) → IsText (g n) → ⊥)
       → NumsAre (λ ns. length ns ≡ 1) x → NumsLaid k r x → From k r [] [] (numberNamed f x)
-  number-named f q g short e o s p c h = four
-  number-named f q g (nums [] ks l t) e o s p c h = four
+  number-named f q g short e o s p c h = tt
+  number-named f q g (nums [] ks l t) e o s p c h = tt
   number-named f q g (nums (n ∷ m ∷ ns) ks l t) e o s p c h = absurd (omega (arith, c))
   number-named f q g (nums (n ∷ []) ks l t) e o s p c h =
       let xs : List Argument = q (moved n) ∷ [] in
