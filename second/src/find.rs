@@ -1,5 +1,6 @@
-//! 01, "Finding": the query and where it occurs.
+//! 01, "Finding", with the names of 2026-01: the query and where it occurs.
 
+use crate::families::{read_families, Families};
 use crate::read::{read_rows, Record};
 use crate::refusal::{check_room, check_sizes, Refusal, Rooms, QUERY};
 use crate::widths::{is_list_name, read_list};
@@ -21,30 +22,43 @@ pub struct Found {
     pub hits: Vec<usize>,
 }
 
-/// Finds all occurrences of a query in a stream.
-pub fn find(stream: &[u8], list: &[u8], query: &[u8], rooms: Rooms) -> Result<Found, Refusal> {
-    check_sizes(stream, list, query)?;
+/// Finds all occurrences of a query in a stream. The family list is judged "after 2 and before 12"; "an empty
+/// list gives the old answers".
+pub fn find(
+    stream: &[u8],
+    list: &[u8],
+    families: &[u8],
+    query: &[u8],
+    rooms: Rooms,
+) -> Result<Found, Refusal> {
+    check_sizes(stream, list, families, query)?;
     let widths = read_list(list)?;
+    let families = read_families(families)?;
     let glyphs = read_query(query)?;
     let records = read_rows(stream, &widths)?.records;
-    let hits = occurrences(stream, &records, &glyphs);
+    let hits = occurrences(stream, &records, &families, &glyphs);
     check_room(records.len() <= rooms.records && hits.len() <= rooms.hits)?;
     Ok(Found { records, hits })
 }
 
 /// "Occurrences may overlap", so every record number is tried.
-pub fn occurrences(stream: &[u8], records: &[Record], glyphs: &[QueryGlyph]) -> Vec<usize> {
-    let occurs = |run: &[Record]| occurs(stream, run, glyphs);
+pub fn occurrences(
+    stream: &[u8],
+    records: &[Record],
+    families: &Families,
+    glyphs: &[QueryGlyph],
+) -> Vec<usize> {
+    let occurs = |run: &[Record]| occurs(stream, run, families, glyphs);
     let runs = records.windows(glyphs.len()).enumerate();
     runs.filter(|(_, run)| occurs(run)).map(|(number, _)| number).collect()
 }
 
-/// The records "share one page ordinal, have the same name bytes in order, and each after the
-/// first has its gap mark set exactly where a gap line precedes".
-fn occurs(stream: &[u8], run: &[Record], glyphs: &[QueryGlyph]) -> bool {
+/// The records "share one page ordinal, have the same name bytes [by 2026-01: names that match] in order, and
+/// each after the first has its gap mark set exactly where a gap line precedes".
+fn occurs(stream: &[u8], run: &[Record], families: &Families, glyphs: &[QueryGlyph]) -> bool {
     run.iter().zip(glyphs).enumerate().all(|(i, (record, glyph))| {
         record.ordinal == run[0].ordinal
-            && record.name(stream) == glyph.name
+            && families.names_match(record.name(stream), &glyph.name)
             && (i == 0 || record.gap == glyph.gap)
     })
 }

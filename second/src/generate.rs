@@ -2,6 +2,8 @@
 
 pub mod barred;
 pub mod damage;
+pub mod families;
+pub mod first;
 pub mod list;
 pub mod outline;
 pub mod query;
@@ -18,6 +20,7 @@ use stream::Manner;
 pub struct Case {
     pub stream: Vec<u8>,
     pub list: Vec<u8>,
+    pub families: Vec<u8>,
     pub query: Vec<u8>,
     pub rooms: Rooms,
 }
@@ -46,28 +49,37 @@ pub fn case(seed: u64) -> Case {
     case
 }
 
-/// A case whose stream, list and query were made by the rules.
+/// A case whose stream, lists and query were made by the rules.
 pub fn sound_case(random: &mut Random, manner: Manner) -> Case {
+    let mut case = plain_case(random, manner);
+    families::add_families(random, &mut case);
+    case
+}
+
+/// The same with an empty family list.
+fn plain_case(random: &mut Random, manner: Manner) -> Case {
     let (list, fonts) = list::sound_list(random);
     let stream = stream::stream(random, &fonts, manner);
     let query = query::query(random, &stream, &list);
-    Case { stream, list, query, rooms: Rooms::default() }
+    Case { stream, list, families: Vec::new(), query, rooms: Rooms::default() }
 }
 
 fn damage_case(random: &mut Random, case: &mut Case) {
-    match random.below(8) {
+    match random.below(9) {
         0 => damage::damage(random, &mut case.list),
         1 => damage::damage(random, &mut case.query),
-        2 => {
+        2 => case.families = families::wrong_families(random, &case.families),
+        3 => {
             damage::damage(random, &mut case.stream);
             damage::damage(random, &mut case.list);
             damage::damage(random, &mut case.query);
+            case.families = families::wrong_families(random, &case.families);
         }
         _ => damage::damage(random, &mut case.stream),
     }
 }
 
-/// Puts barred bytes in the names of the list or the query too, at times next to other damage.
+/// Puts barred bytes in the names of the lists or the query too, at times next to other damage.
 fn bar_case(random: &mut Random, case: &mut Case) {
     let kind = random.below(12);
     if kind < 2 {
@@ -76,7 +88,11 @@ fn bar_case(random: &mut Random, case: &mut Case) {
     if (1..4).contains(&kind) {
         barred::bar_line(random, &mut case.query, b"glyph=");
     }
-    if kind < 4 && random.once_in(4) {
+    if kind == 4 || random.once_in(20) {
+        let key = random.part(&[b"name=", b"same="]);
+        barred::bar_line(random, &mut case.families, key);
+    }
+    if kind < 5 && random.once_in(4) {
         damage_case(random, case);
     }
 }
@@ -86,7 +102,9 @@ fn lengthen(random: &mut Random, case: &mut Case) {
     let more = random.below(2);
     match random.below(40) {
         0 => case.stream.resize(STREAM_LIMIT + more, b'\n'),
-        1..=19 => case.list.resize(LIST_LIMIT + more, b'\n'),
+        1..=13 => case.list.resize(LIST_LIMIT + more, b'\n'),
+        14..=20 => case.families.resize(LIST_LIMIT + more, b'\n'),
+        21..=26 => case.families = families::of_length(LIST_LIMIT + more),
         _ => case.query.resize(QUERY_LIMIT + more, b'\n'),
     }
 }

@@ -3,6 +3,7 @@
 
 pub mod bytes;
 pub mod command;
+pub mod families;
 pub mod find;
 pub mod generate;
 pub mod print;
@@ -14,6 +15,7 @@ pub mod vectors;
 pub mod widths;
 
 pub use command::Colour;
+pub use families::{first_name, first_part, Part};
 pub use find::{find, Found};
 pub use read::{read, Entry, Reading, Record};
 pub use refusal::{Refusal, Rooms};

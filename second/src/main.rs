@@ -1,18 +1,37 @@
 //! The second program: `glyphs`, `respell` and `find`, printing the text of FORMATS.
 
-use second::print::{found_text, glyphs_text, line_and_column, refusal_text};
-use second::refusal::{reason, LIST_LIMIT, QUERY, QUERY_LIMIT, STREAM_LIMIT, TOO_LONG, WIDTH_LIST};
+use second::print::{found_text, line_and_column, named_glyphs_text, refusal_text};
+use second::refusal::{
+    reason, FAMILY_LIST, LIST_LIMIT, QUERY, QUERY_LIMIT, STREAM_LIMIT, TOO_LONG, WIDTH_LIST,
+};
 use second::{find, read, respell, Refusal, Rooms};
 use std::io::Write;
 use std::process::ExitCode;
 
 const USAGE: &str = "usage: second [--records N] [--entries N] [--hits N] [--spelling N] \
-    glyphs STREAM WIDTHS | respell STREAM WIDTHS | find STREAM WIDTHS QUERY";
+    glyphs [-f FAMILIES] STREAM WIDTHS | respell STREAM WIDTHS | find [-f FAMILIES] STREAM WIDTHS QUERY";
 
 /// A file named on the command line.
+#[derive(Default)]
 struct Input {
     path: String,
     bytes: Vec<u8>,
+}
+
+/// The files of a call; the family list and the query are empty where none is given.
+struct Inputs {
+    stream: Input,
+    list: Input,
+    families: Input,
+    query: Input,
+}
+
+/// The options of a call, and the words that are left.
+#[derive(Default)]
+struct Call {
+    rooms: Rooms,
+    families: Option<String>,
+    words: Vec<String>,
 }
 
 fn main() -> ExitCode {
@@ -27,14 +46,19 @@ fn main() -> ExitCode {
 
 /// Whether the input was accepted; `Err` for bad usage or an unreadable file.
 fn run(arguments: Vec<String>) -> Result<bool, String> {
-    let (rooms, words) = take_rooms(arguments)?;
-    let (command, paths) = words.split_first().ok_or(USAGE)?;
-    let expected = if command == "find" { 3 } else { 2 };
-    if !["glyphs", "respell", "find"].contains(&command.as_str()) || paths.len() != expected {
+    let call = take_options(arguments)?;
+    let (command, paths) = call.words.split_first().ok_or(USAGE)?;
+    let (takes_families, expected) = match command.as_str() {
+        "glyphs" => (true, 2),
+        "respell" => (false, 2),
+        "find" => (true, 3),
+        _ => return Err(USAGE.to_string()),
+    };
+    if paths.len() != expected || (call.families.is_some() && !takes_families) {
         return Err(USAGE.to_string());
     }
-    let inputs = paths.iter().map(|path| open(path)).collect::<Result<Vec<Input>, String>>()?;
-    match answer(command, &inputs, rooms) {
+    let inputs = open_all(paths, call.families.as_ref())?;
+    match answer(command, &inputs, call.rooms) {
         Ok(text) => print(&text).map(|()| true),
         Err(refusal) => {
             print(&refusal_text(refusal))?;
@@ -44,38 +68,53 @@ fn run(arguments: Vec<String>) -> Result<bool, String> {
     }
 }
 
-/// Takes the room options out of the arguments.
-fn take_rooms(arguments: Vec<String>) -> Result<(Rooms, Vec<String>), String> {
-    let mut rooms = Rooms::default();
-    let mut words = Vec::new();
+/// Takes the options out of the arguments, wherever they stand; `-f` may come once.
+fn take_options(arguments: Vec<String>) -> Result<Call, String> {
+    let mut call = Call::default();
     let mut rest = arguments.into_iter();
     while let Some(argument) = rest.next() {
         let room = match argument.as_str() {
-            "--records" => &mut rooms.records,
-            "--entries" => &mut rooms.entries,
-            "--hits" => &mut rooms.hits,
-            "--spelling" => &mut rooms.spelling,
+            "--records" => &mut call.rooms.records,
+            "--entries" => &mut call.rooms.entries,
+            "--hits" => &mut call.rooms.hits,
+            "--spelling" => &mut call.rooms.spelling,
+            "-f" if call.families.is_none() => {
+                call.families = Some(rest.next().ok_or(USAGE)?);
+                continue;
+            }
+            "-f" => return Err(USAGE.to_string()),
             _ => {
-                words.push(argument);
+                call.words.push(argument);
                 continue;
             }
         };
         *room = rest.next().and_then(|number| number.parse().ok()).ok_or(USAGE)?;
     }
-    Ok((rooms, words))
+    Ok(call)
 }
 
-fn open(path: &str) -> Result<Input, String> {
+fn open(path: &String) -> Result<Input, String> {
     let bytes = std::fs::read(path).map_err(|error| format!("{path}: {error}"))?;
-    Ok(Input { path: path.to_string(), bytes })
+    Ok(Input { path: path.clone(), bytes })
 }
 
-fn answer(command: &str, inputs: &[Input], rooms: Rooms) -> Result<Vec<u8>, Refusal> {
-    let (stream, list) = (&inputs[0].bytes, &inputs[1].bytes);
+fn open_all(paths: &[String], families: Option<&String>) -> Result<Inputs, String> {
+    let open_given = |path: Option<&String>| path.map_or(Ok(Input::default()), open);
+    Ok(Inputs {
+        stream: open(&paths[0])?,
+        list: open(&paths[1])?,
+        families: open_given(families)?,
+        query: open_given(paths.get(2))?,
+    })
+}
+
+fn answer(command: &str, inputs: &Inputs, rooms: Rooms) -> Result<Vec<u8>, Refusal> {
+    let Inputs { stream, list, families, query } = inputs;
+    let (stream, list, families) = (&stream.bytes, &list.bytes, &families.bytes);
     match command {
-        "glyphs" => read(stream, list, rooms).map(|reading| glyphs_text(stream, &reading)),
+        "glyphs" => read(stream, list, rooms).map(|reading| named_glyphs_text(stream, families, &reading)),
         "respell" => respell(stream, list, rooms),
-        _ => find(stream, list, &inputs[2].bytes, rooms).map(|found| found_text(&found)),
+        _ => find(stream, list, families, &query.bytes, rooms).map(|found| found_text(&found)),
     }
 }
 
@@ -85,19 +124,23 @@ fn print(text: &[u8]) -> Result<(), String> {
 }
 
 /// The reason in words, the file it is about, the line and column.
-fn line_for_people(refusal: Refusal, inputs: &[Input]) -> String {
+fn line_for_people(refusal: Refusal, inputs: &Inputs) -> String {
     let input = match refusal.number {
         TOO_LONG => too_long_input(inputs),
-        WIDTH_LIST => &inputs[1],
-        QUERY => &inputs[2],
-        _ => &inputs[0],
+        WIDTH_LIST => &inputs.list,
+        FAMILY_LIST => &inputs.families,
+        QUERY => &inputs.query,
+        _ => &inputs.stream,
     };
     let (line, column) = line_and_column(&input.bytes, refusal.offset);
     format!("{}: line {line}, column {column}: {}", input.path, reason(refusal.number))
 }
 
-fn too_long_input(inputs: &[Input]) -> &Input {
-    let limits = [STREAM_LIMIT, LIST_LIMIT, QUERY_LIMIT];
-    let mut sized = inputs.iter().zip(limits);
-    sized.find(|(input, limit)| input.bytes.len() > *limit).map_or(&inputs[0], |(input, _)| input)
+/// The first input that is too long. `glyphs` refuses no family list, so only its others are looked at:
+/// where it gives 1, one of them is too long, and they stand before the family list.
+fn too_long_input(inputs: &Inputs) -> &Input {
+    let Inputs { stream, list, families, query } = inputs;
+    let limits = [(stream, STREAM_LIMIT), (list, LIST_LIMIT), (families, LIST_LIMIT), (query, QUERY_LIMIT)];
+    let is_too_long = |(input, limit): &(&Input, usize)| input.bytes.len() > *limit;
+    limits.into_iter().find(is_too_long).map_or(stream, |(input, _)| input)
 }

@@ -1,6 +1,7 @@
 //! FORMATS: the text the programs print on standard output.
 
 use crate::command::Colour;
+use crate::families::families_or_none;
 use crate::find::Found;
 use crate::read::{Entry, Reading, Record};
 use crate::refusal::Refusal;
@@ -9,9 +10,17 @@ use std::io::Write;
 
 /// `glyphs STREAM WIDTHS`
 pub fn glyphs_text(stream: &[u8], reading: &Reading) -> Vec<u8> {
+    named_glyphs_text(stream, &[], reading)
+}
+
+/// `glyphs -f FAMILIES STREAM WIDTHS`: "NAME in a `glyph` line is the family's first name (PLACE and LENGTH
+/// stay the record's)".
+pub fn named_glyphs_text(stream: &[u8], families: &[u8], reading: &Reading) -> Vec<u8> {
+    let names = families_or_none(families);
     let mut text = Vec::new();
     for record in &reading.records {
-        write_glyph(&mut text, stream, record);
+        let part = names.first_part(stream, record.place as usize, record.length as usize);
+        write_glyph(&mut text, part.of(stream, families), record);
     }
     for entry in &reading.entries {
         write_entry(&mut text, entry);
@@ -27,12 +36,12 @@ fn write_line(text: &mut Vec<u8>, line: Arguments) {
 }
 
 /// `glyph ORDINAL PAGE H V FONT SIZE GAP INDEX PLACE LENGTH NAME`
-fn write_glyph(text: &mut Vec<u8>, stream: &[u8], record: &Record) {
+fn write_glyph(text: &mut Vec<u8>, name: &[u8], record: &Record) {
     let Record { ordinal, page, h, v, font, size, gap, index, place, length } = record;
     let gap = u8::from(*gap);
     let fields = format_args!("glyph {ordinal} {page} {h} {v} {font} {size} {gap} {index} {place} {length} ");
     text.write_fmt(fields).expect("a text in memory takes every line");
-    text.extend(record.name(stream));
+    text.extend(name);
     text.push(b'\n');
 }
 
@@ -58,7 +67,7 @@ fn colour_fields(colour: &Colour) -> String {
     format!("{} {c1} {c2} {c3} {c4}", char::from(colour.scheme))
 }
 
-/// `find STREAM WIDTHS QUERY`
+/// `find [-f FAMILIES] STREAM WIDTHS QUERY`
 pub fn found_text(found: &Found) -> Vec<u8> {
     let mut text = Vec::new();
     for hit in &found.hits {

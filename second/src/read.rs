@@ -64,7 +64,7 @@ pub struct Reading {
 
 /// Reads a stream with its width list.
 pub fn read(stream: &[u8], list: &[u8], rooms: Rooms) -> Result<Reading, Refusal> {
-    check_sizes(stream, list, &[])?;
+    check_sizes(stream, list, &[], &[])?;
     let widths = read_list(list)?;
     let reading = read_rows(stream, &widths)?;
     let fits = reading.records.len() <= rooms.records && reading.entries.len() <= rooms.entries;

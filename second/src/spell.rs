@@ -8,7 +8,7 @@ use crate::widths::read_list;
 
 /// Rewrites a stream in the house spelling.
 pub fn respell(stream: &[u8], list: &[u8], rooms: Rooms) -> Result<Vec<u8>, Refusal> {
-    check_sizes(stream, list, &[])?;
+    check_sizes(stream, list, &[], &[])?;
     let widths = read_list(list)?;
     let mut walk = Walk::new(stream, &widths);
     let mut speller = Speller::new(stream, rooms.spelling.min(SPELLING_LIMIT));

@@ -1,9 +1,11 @@
 //! The vector files: inputs with expected answers, parsed and run against a program.
 //! The format is described in README.md and at the top of each file.
 
+use crate::bytes::Name;
 use crate::print::{found_text, glyphs_text};
 use crate::refusal::{Refusal, Rooms};
-use crate::{find, read, respell};
+use crate::{find, first_name, read, respell, Part};
+use std::fmt::Debug;
 use std::path::{Path, PathBuf};
 
 /// What stands before and behind the fragment of a `body` case.
@@ -13,12 +15,24 @@ pub const BODY_TAIL: &[u8] = b"\nx stop\n";
 pub const SPELT_HEAD: &[u8] = b"x T ps\nx r 72000 1 1\nx i\np 1\nx f 1 TR\nf 1\ns 10000\n";
 /// The sample list of 01, for cases without a `list` line.
 pub const SAMPLE_LIST: &[u8] = b"unitwidth=1000\nfont=TR\nbyte=97\nwidth=44\nbyte=98\nwidth=50\n";
+/// The rest of the search that a family list of a `judged` case is given to.
+pub const JUDGED_BODY: &[u8] = b"ca";
+pub const JUDGED_QUERY: &[u8] = b"glyph=a\n";
 
-/// A program under test: each routine answers the text of FORMATS or a refusal.
+/// A program under test: each routine answers the text of FORMATS or a refusal, and for a first name which
+/// part was handed back, `None` for bytes that are a part of neither input (`Part::by_address` tells).
 pub trait Program {
     fn glyphs(&self, stream: &[u8], list: &[u8], rooms: Rooms) -> Result<Vec<u8>, Refusal>;
     fn respell(&self, stream: &[u8], list: &[u8], rooms: Rooms) -> Result<Vec<u8>, Refusal>;
-    fn find(&self, stream: &[u8], list: &[u8], query: &[u8], rooms: Rooms) -> Result<Vec<u8>, Refusal>;
+    fn find(
+        &self,
+        stream: &[u8],
+        list: &[u8],
+        families: &[u8],
+        query: &[u8],
+        rooms: Rooms,
+    ) -> Result<Vec<u8>, Refusal>;
+    fn first_name(&self, stream: &[u8], families: &[u8], place: usize, length: usize) -> Option<Part>;
 }
 
 /// The second program itself.
@@ -33,8 +47,19 @@ impl Program for Second {
         respell(stream, list, rooms)
     }
 
-    fn find(&self, stream: &[u8], list: &[u8], query: &[u8], rooms: Rooms) -> Result<Vec<u8>, Refusal> {
-        find(stream, list, query, rooms).map(|found| found_text(&found))
+    fn find(
+        &self,
+        stream: &[u8],
+        list: &[u8],
+        families: &[u8],
+        query: &[u8],
+        rooms: Rooms,
+    ) -> Result<Vec<u8>, Refusal> {
+        find(stream, list, families, query, rooms).map(|found| found_text(&found))
+    }
+
+    fn first_name(&self, stream: &[u8], families: &[u8], place: usize, length: usize) -> Option<Part> {
+        Part::by_address(first_name(stream, families, place, length), stream, families)
     }
 }
 
@@ -56,6 +81,8 @@ pub enum Check {
     Text(Routine, Vec<u8>),
     /// a line of the reader's text, its newline aside
     Has(Vec<u8>),
+    /// the first name for a record of this place and length
+    First { place: usize, length: usize, part: Part },
 }
 
 /// One case: the inputs and what is expected of them.
@@ -64,6 +91,7 @@ pub struct Case {
     pub name: String,
     pub stream: Vec<u8>,
     pub list: Vec<u8>,
+    pub families: Vec<u8>,
     pub query: Option<Vec<u8>>,
     pub rooms: Rooms,
     pub checks: Vec<Check>,
@@ -71,7 +99,7 @@ pub struct Case {
 
 /// How many cases the vector files have at the least: every test that runs them asks for so many, so
 /// that a file that is lost is missed.
-pub const LEAST_CASES: usize = 1_980;
+pub const LEAST_CASES: usize = 2_476;
 
 /// The cases of every vector file of the repository, in the order of the files' names.
 pub fn all_cases() -> Result<Vec<Case>, String> {
@@ -109,13 +137,32 @@ struct Block {
     body: Option<Vec<u8>>,
     stream: Option<Vec<u8>>,
     list: Option<Vec<u8>>,
+    families: Option<Vec<u8>>,
     query: Option<Vec<u8>>,
     rooms: Rooms,
+    /// whether the family list is judged alone
+    judged: bool,
+    firsts: Vec<FirstCall>,
     /// `glyphs`, `respell`, `spelt`, `find` texts, several lines of one key joined
     texts: Vec<(String, Vec<u8>)>,
     /// `expect`, `reader`, `rewriter`, `finder` with their answers
     answers: Vec<(String, Answer)>,
     has: Vec<Vec<u8>>,
+}
+
+/// A `first` line: the call, the part that comes back (`None`: the empty one), and its bytes.
+struct FirstCall {
+    place: usize,
+    length: usize,
+    part: Option<PartPlace>,
+    name: Vec<u8>,
+}
+
+/// Where a name handed back stands.
+enum PartPlace {
+    /// at the record's place
+    Stream,
+    Families(usize),
 }
 
 fn parse_block(lines: &[(usize, &str)]) -> Result<Case, String> {
@@ -135,6 +182,7 @@ impl Block {
             "body" => join(&mut self.body, &unescape(value)?),
             "stream" => join(&mut self.stream, &unescape(value)?),
             "list" => join(&mut self.list, &unescape(value)?),
+            "families" => join(&mut self.families, &unescape(value)?),
             "query" => join(&mut self.query, &unescape(value)?),
             "records" => self.rooms.records = parse_number(value)?,
             "entries" => self.rooms.entries = parse_number(value)?,
@@ -143,6 +191,11 @@ impl Block {
             "expect" | "reader" | "rewriter" | "finder" => {
                 self.answers.push((key.to_string(), parse_answer(value)?));
             }
+            "judged" => {
+                self.judged = true;
+                self.answers.push(("finder".to_string(), parse_answer(value)?));
+            }
+            "first" => self.firsts.push(parse_first(value)?),
             "has" => self.has.push(unescape(value)?),
             "glyphs" | "respell" | "spelt" | "find" => self.take_text(key, &unescape(value)?),
             _ => return Err("unknown key".to_string()),
@@ -157,24 +210,47 @@ impl Block {
         }
     }
 
-    fn finish(self) -> Result<Case, String> {
+    /// A family list "judged alone" is given to a sound search.
+    fn add_sound_search(&mut self) -> Result<(), String> {
+        let is_alone = self.body.is_none() && self.stream.is_none() && self.query.is_none();
+        if !is_alone || self.families.is_none() {
+            return Err("judged needs a family list and no body, stream or query".to_string());
+        }
+        self.body = Some(JUDGED_BODY.to_vec());
+        self.query = Some(JUDGED_QUERY.to_vec());
+        Ok(())
+    }
+
+    fn finish(mut self) -> Result<Case, String> {
+        if self.judged {
+            self.add_sound_search()?;
+        }
         let (stream, base) = match (&self.body, &self.stream) {
             (Some(body), None) => ([BODY_HEAD, body, BODY_TAIL].concat(), BODY_HEAD.len()),
             (None, Some(stream)) => (stream.clone(), 0),
             _ => return Err("needs a body or a stream".to_string()),
         };
-        let checks = self.checks(base)?;
+        let families = self.families.take().unwrap_or_default();
+        let mut checks = self.checks(base);
+        for call in &self.firsts {
+            checks.push(first_check(call, base, &stream, &families)?);
+        }
+        if checks.is_empty() {
+            return Err("expects nothing".to_string());
+        }
         Ok(Case {
             name: self.name.ok_or("needs a name")?,
             stream,
             list: self.list.unwrap_or(SAMPLE_LIST.to_vec()),
+            families,
             query: self.query,
             rooms: self.rooms,
             checks,
         })
     }
 
-    fn checks(&self, base: usize) -> Result<Vec<Check>, String> {
+    /// The checks of the three routines.
+    fn checks(&self, base: usize) -> Vec<Check> {
         let mut checks = Vec::new();
         for (key, answer) in &self.answers {
             let answer = answer.map(|refusal| from_fragment(refusal, base));
@@ -190,10 +266,7 @@ impl Block {
             });
         }
         checks.extend(self.has.iter().map(|line| Check::Has(line.clone())));
-        if checks.is_empty() {
-            return Err("expects nothing".to_string());
-        }
-        Ok(checks)
+        checks
     }
 
     fn routines(&self, key: &str) -> Vec<Routine> {
@@ -218,6 +291,40 @@ fn from_fragment(refusal: Refusal, base: usize) -> Refusal {
     Refusal { offset, ..refusal }
 }
 
+/// The check of a `first` line, of which the place counts from the fragment's start too. The part that it
+/// names must have the bytes that it names.
+fn first_check(call: &FirstCall, base: usize, stream: &[u8], families: &[u8]) -> Result<Check, String> {
+    let place = call.place.checked_add(base).ok_or("too large a place for a body")?;
+    let (part, inside) = match call.part {
+        None => (Part::Empty, Some(&[][..])),
+        Some(PartPlace::Stream) => {
+            let name = Name { place, length: call.length };
+            (Part::Stream(name), stream.get(place..).and_then(|rest| rest.get(..call.length)))
+        }
+        Some(PartPlace::Families(place)) => {
+            let name = Name { place, length: call.name.len() };
+            (Part::Families(name), families.get(place..).and_then(|rest| rest.get(..name.length)))
+        }
+    };
+    if inside != Some(&call.name[..]) {
+        return Err("the name does not stand there".to_string());
+    }
+    Ok(Check::First { place, length: call.length, part })
+}
+
+/// `PLACE LENGTH empty`, `PLACE LENGTH stream NAME` or `PLACE LENGTH families PLACE NAME`
+fn parse_first(value: &str) -> Result<FirstCall, String> {
+    let words: Vec<&str> = value.split(' ').collect();
+    let (part, name) = match words[..] {
+        [_, _, "empty"] => (None, ""),
+        [_, _, "stream", name] => (Some(PartPlace::Stream), name),
+        [_, _, "families", place, name] => (Some(PartPlace::Families(parse_number(place)?)), name),
+        _ => return Err("wrong first name".to_string()),
+    };
+    let (place, length) = (parse_number(words[0])?, parse_number(words[1])?);
+    Ok(FirstCall { place, length, part, name: unescape(name)? })
+}
+
 fn parse_number(value: &str) -> Result<usize, String> {
     value.parse().map_err(|_| "wrong number".to_string())
 }
@@ -235,20 +342,26 @@ fn parse_answer(value: &str) -> Result<Answer, String> {
     }
 }
 
-/// `\n`, `\t`, `\\`, `\s` (space), `\xHH` and the repetition `\{BYTES*COUNT}`.
+/// `\n`, `\t`, `\\`, `\s` (space), `\xHH` and the repetition `\{BYTES*COUNT}`, in which `\#` is the number of
+/// the copy, from 0, in four digits.
 pub fn unescape(text: &str) -> Result<Vec<u8>, String> {
+    unescape_copy(text, None)
+}
+
+/// The same for a copy of a repetition.
+fn unescape_copy(text: &str, copy: Option<usize>) -> Result<Vec<u8>, String> {
     let mut bytes = Vec::new();
     let mut rest = text;
     while let Some((plain, escaped)) = rest.split_once('\\') {
         bytes.extend(plain.bytes());
-        rest = take_escape(escaped, &mut bytes)?;
+        rest = take_escape(escaped, copy, &mut bytes)?;
     }
     bytes.extend(rest.bytes());
     Ok(bytes)
 }
 
 /// Takes one escape, its backslash aside, and returns what stands behind it.
-fn take_escape<'a>(escaped: &'a str, bytes: &mut Vec<u8>) -> Result<&'a str, String> {
+fn take_escape<'a>(escaped: &'a str, copy: Option<usize>, bytes: &mut Vec<u8>) -> Result<&'a str, String> {
     let letter = escaped.chars().next().ok_or("lone backslash")?;
     let rest = &escaped[letter.len_utf8()..];
     match letter {
@@ -256,6 +369,7 @@ fn take_escape<'a>(escaped: &'a str, bytes: &mut Vec<u8>) -> Result<&'a str, Str
         't' => bytes.push(b'\t'),
         's' => bytes.push(b' '),
         '\\' => bytes.push(b'\\'),
+        '#' => bytes.extend(format!("{:04}", copy.ok_or("\\# outside a repetition")?).bytes()),
         'x' => {
             let digits = rest.get(..2).ok_or("short \\x")?;
             bytes.push(u8::from_str_radix(digits, 16).map_err(|_| "wrong \\x")?);
@@ -264,12 +378,22 @@ fn take_escape<'a>(escaped: &'a str, bytes: &mut Vec<u8>) -> Result<&'a str, Str
         '{' => {
             let (repetition, rest) = rest.split_once('}').ok_or("open repetition")?;
             let (part, count) = repetition.split_once('*').ok_or("repetition without count")?;
-            bytes.extend(unescape(part)?.repeat(parse_number(count)?));
+            bytes.extend(repeat(part, parse_number(count)?)?);
             return Ok(rest);
         }
         _ => return Err(format!("unknown escape {letter}")),
     }
     Ok(rest)
+}
+
+/// The copies of a repetition, which are alike where they do not tell their number.
+fn repeat(part: &str, count: usize) -> Result<Vec<u8>, String> {
+    let (first, second) = (unescape_copy(part, Some(0))?, unescape_copy(part, Some(1))?);
+    if first == second {
+        return Ok(first.repeat(count));
+    }
+    let copies = (0..count).map(|copy| unescape_copy(part, Some(copy)));
+    Ok(copies.collect::<Result<Vec<_>, _>>()?.concat())
 }
 
 /// Runs one case; the message of a failure names the case, what was expected and what came.
@@ -302,10 +426,14 @@ fn run_check(case: &Case, check: &Check, program: &dyn Program) -> Result<(), St
             let has = text.split(|&byte| byte == b'\n').any(|known| known == line);
             agree(has, &Routine::Reader, shown(line), shown(&text))
         }
+        Check::First { place, length, part } => {
+            let answer = program.first_name(&case.stream, &case.families, *place, *length);
+            agree(answer == Some(*part), &"FirstName", format!("{part:?}"), format!("{answer:?}"))
+        }
     }
 }
 
-fn agree(agrees: bool, routine: &Routine, expected: String, came: String) -> Result<(), String> {
+fn agree(agrees: bool, routine: &dyn Debug, expected: String, came: String) -> Result<(), String> {
     if agrees {
         return Ok(());
     }
@@ -318,7 +446,7 @@ fn run_routine(case: &Case, routine: Routine, program: &dyn Program) -> Result<V
         Routine::Rewriter => program.respell(&case.stream, &case.list, case.rooms),
         Routine::Finder => {
             let query = case.query.as_deref().unwrap_or_default();
-            program.find(&case.stream, &case.list, query, case.rooms)
+            program.find(&case.stream, &case.list, &case.families, query, case.rooms)
         }
     }
 }

@@ -118,7 +118,7 @@ impl ListReader {
     }
 }
 
-/// A name of a list or query: "a string of 1 to 64 bytes". 2026-06: "the old numbers 2, 12 [...] are
+/// A name of a list or query: "a string of 1 to 64 bytes". 2026-06: "the old numbers 2, 12 and 14 are
 /// given for such a byte in a name".
 pub fn is_list_name(name: &[u8]) -> bool {
     let is_wrong = |&byte: &u8| is_whitespace(byte) || is_barred(byte);

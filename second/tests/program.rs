@@ -64,6 +64,47 @@ fn refusals_are_printed_and_explained() {
 }
 
 #[test]
+fn find_takes_a_family_list() {
+    let (stream, list) = (file("f-stream", SAMPLE), file("f-list", LIST));
+    let query = file("f-query", "glyph=b\nglyph=B\ngap=any\nglyph=u0065_0301\n");
+    let families = file("f-families", "name=a\nsame=b\nsame=B\nname=u0065_0301\nsame='e\n");
+    let (empty, wrong) = (file("f-empty", ""), file("f-wrong", "name=a\nsame=b\nname=c\n"));
+    let with = |families: &PathBuf| second(&["find", "-f"], &[families, &stream, &list, &query]);
+    assert_eq!(stdout(&with(&families)), "hit 0\nfound 3 1\n");
+    assert_eq!(stdout(&with(&empty)), "found 3 0\n");
+    assert_eq!(stdout(&second(&["find"], &[&stream, &list, &query])), "found 3 0\n");
+    let behind = second(&["find"], &[&stream, &list, &query, &PathBuf::from("-f"), &families]);
+    assert_eq!(stdout(&behind), "hit 0\nfound 3 1\n");
+    let refused = with(&wrong);
+    assert_eq!((stdout(&refused), refused.status.code()), ("refused 14 21\n".to_string(), Some(1)));
+    let reason = "f-wrong: line 4, column 1: wrong or missing line in the family list";
+    assert!(stderr(&refused).contains(reason), "{}", stderr(&refused));
+    let refused = with(&file("f-long", &"x".repeat(65_537)));
+    assert_eq!(stdout(&refused), "refused 1 0\n");
+    assert!(stderr(&refused).contains("f-long: line 1, column 1: "), "{}", stderr(&refused));
+}
+
+/// A wrong or too long family list counts as an empty one here.
+#[test]
+fn glyphs_takes_a_family_list() {
+    let (stream, list) = (file("g-stream", SAMPLE), file("g-list", LIST));
+    let plain = stdout(&second(&["glyphs"], &[&stream, &list]));
+    let with = |content: &str| {
+        let families = file("g-families", content);
+        let output = second(&["glyphs", "-f"], &[&families, &stream, &list]);
+        assert_eq!((stderr(&output), output.status.code()), (String::new(), Some(0)));
+        stdout(&output)
+    };
+    let named = with("name=u0065_0301\nsame='e\nname=B\nsame=b\n");
+    let expected = plain.replace(" 1 b\n", " 1 B\n").replace(" 2 'e\n", " 2 u0065_0301\n");
+    assert_eq!(named, expected);
+    assert_ne!(named, plain);
+    for wrong in ["", "name=B\nsame=b", "name=B\nsame=b\nname=c\n", &"x".repeat(65_537)] {
+        assert_eq!(with(wrong), plain);
+    }
+}
+
+#[test]
 fn the_too_long_input_is_named() {
     let (stream, list) = (file("l-stream", SAMPLE), file("l-list", &"x".repeat(65_537)));
     let refused = second(&["glyphs"], &[&stream, &list]);
@@ -97,6 +138,10 @@ fn bad_usage_is_2() {
         second(&["glyphs"], &[&stream]),
         second(&["find"], &[&stream, &list]),
         second(&["print"], &[&stream, &list]),
+        second(&["respell", "-f"], &[&list, &stream, &list]),
+        second(&["glyphs"], &[&stream, &list, &PathBuf::from("-f")]),
+        second(&["glyphs", "-f"], &[&missing, &stream, &list]),
+        second(&["glyphs", "-f"], &[&list, &PathBuf::from("-f"), &list, &stream, &list]),
         second(&["--records", "many", "glyphs"], &[&stream, &list]),
         second(&["glyphs"], &[&stream, &missing]),
     ];

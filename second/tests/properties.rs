@@ -1,5 +1,8 @@
 //! What must hold of every input, tried on generated ones.
 
+mod naive;
+
+use naive::{families_of, names_match, Family};
 use second::bytes::skip_whitespace_and_comments;
 use second::command::{scan, Command};
 use second::find::{read_query, QueryGlyph};
@@ -44,7 +47,7 @@ fn a_case_depends_on_its_seed_alone() {
 fn sound_cases_are_accepted_but_for_reach() {
     for seed in 0..20_000 {
         let case = sound_case(&mut Random::new(seed), Manner::default());
-        let refusal = find(&case.stream, &case.list, &case.query, NO_LIMIT).err();
+        let refusal = find(&case.stream, &case.list, &case.families, &case.query, NO_LIMIT).err();
         let is_expected = refusal.is_none_or(|refusal| refusal.number == 10 || refusal.number == 12);
         assert!(is_expected, "seed {seed}: {refusal:?}\n{}", case.stream.escape_ascii());
     }
@@ -83,11 +86,11 @@ fn every_command_is_generated() {
 fn every_refusal_comes_and_a_third_is_accepted() {
     let mut counts = [[0u32; 17]; 3];
     for seed in 0..MANY_SEEDS {
-        let Case { stream, list, query, rooms } = case(seed);
+        let Case { stream, list, families, query, rooms } = case(seed);
         let numbers = [
             read(&stream, &list, rooms).err(),
             respell(&stream, &list, rooms).err(),
-            find(&stream, &list, &query, rooms).err(),
+            find(&stream, &list, &families, &query, rooms).err(),
         ];
         for (routine, refusal) in numbers.iter().enumerate() {
             counts[routine][refusal.map_or(0, |refusal| usize::from(refusal.number))] += 1;
@@ -100,7 +103,7 @@ fn every_refusal_comes_and_a_third_is_accepted() {
     for (routine, counts) in counts.iter().enumerate() {
         let numbers: Vec<usize> = (1..=16).filter(|&number| counts[number] > 0).collect();
         let reader = [1, 2, 3, 4, 5, 6, 7, 8, 9, 10, 11, 13, 16];
-        let finder = [1, 2, 3, 4, 5, 6, 7, 8, 9, 10, 11, 12, 13, 16];
+        let finder = [1, 2, 3, 4, 5, 6, 7, 8, 9, 10, 11, 12, 13, 14, 16];
         assert_eq!(numbers, if routine < 2 { &reader[..] } else { &finder });
     }
 }
@@ -108,8 +111,8 @@ fn every_refusal_comes_and_a_third_is_accepted() {
 #[test]
 fn a_refusal_has_its_offset() {
     for seed in 0..SEEDS {
-        let Case { stream, list, query, rooms } = case(seed);
-        let Err(Refusal { number, offset }) = find(&stream, &list, &query, rooms) else {
+        let Case { stream, list, families, query, rooms } = case(seed);
+        let Err(Refusal { number, offset }) = find(&stream, &list, &families, &query, rooms) else {
             continue;
         };
         let is_command = stream.get(offset).is_some_and(|byte| !b" \t\n".contains(byte));
@@ -122,6 +125,7 @@ fn a_refusal_has_its_offset() {
             6 => is_command || stream[offset..].starts_with(b"\n+"),
             11 => offset == stream.len(),
             12 => is_line(&query) && (offset < query.len() || query.is_empty()),
+            14 => is_line(&families),
             _ => false,
         };
         assert!(fits, "seed {seed}: {number} at {offset}");
@@ -161,12 +165,12 @@ fn all_before_a_faulty_command_is_sound() {
 #[test]
 fn the_routines_refuse_alike() {
     for seed in 0..SEEDS {
-        let Case { stream, list, query, .. } = case(seed);
+        let Case { stream, list, families, query, .. } = case(seed);
         let reader = read(&stream, &list, NO_LIMIT).err();
         assert_eq!(respell(&stream, &list, NO_LIMIT).err(), reader, "seed {seed}");
-        let finder = find(&stream, &list, &query, NO_LIMIT).err();
-        let is_query = finder.is_some_and(|refusal| refusal.number == 12 || refusal.number == 1);
-        assert!(is_query || finder == reader, "seed {seed}: {finder:?} {reader:?}");
+        let finder = find(&stream, &list, &families, &query, NO_LIMIT).err();
+        let is_finders = finder.is_some_and(|refusal| [1, 12, 14].contains(&refusal.number));
+        assert!(is_finders || finder == reader, "seed {seed}: {finder:?} {reader:?}");
     }
 }
 
@@ -533,30 +537,35 @@ fn has_barred_name(stream: &[u8], place: usize) -> bool {
     word.is_some_and(|word| line[word..].iter().any(|&byte| is_barred(byte)))
 }
 
+/// The keys of lines with a name.
+const NAME_KEYS: [&str; 4] = ["font=", "name=", "same=", "glyph="];
+
 /// In lists and queries too: the wrong line is one with a barred byte in its name, and with a letter in its
 /// place another line is wrong, or none.
 #[test]
 fn barred_bytes_come_in_lists_and_queries() {
     let mut counts = BTreeMap::new();
     for seed in 0..MANY_SEEDS {
-        let Case { stream, list, query, .. } = case(seed);
-        let Err(Refusal { number: number @ (2 | 12), offset }) = find(&stream, &list, &query, NO_LIMIT)
-        else {
-            continue;
-        };
-        let (bytes, key) = if number == 2 { (&list, "font=") } else { (&query, "glyph=") };
+        let Case { stream, list, families, query, .. } = case(seed);
+        let mut inputs = [list, families, query];
+        let refusal =
+            |[list, families, query]: &[Vec<u8>; 3]| find(&stream, list, families, query, NO_LIMIT).err();
+        let Some(Refusal { number: number @ (2 | 12 | 14), offset }) = refusal(&inputs) else { continue };
+        let place = [2, 14, 12].iter().position(|&known| known == number).unwrap();
+        let bytes = &inputs[place];
         let end = run_end(bytes, offset, |byte| byte != b'\n');
-        let Some(name) = bytes[offset..end].strip_prefix(key.as_bytes()) else { continue };
-        let changed = with_letters_from(bytes, offset);
-        let (list, query) = if number == 2 { (&changed, &query) } else { (&list, &changed) };
-        let next = find(&stream, list, query, NO_LIMIT).err();
+        let line = bytes[offset..end].to_vec();
+        let Some(key) = NAME_KEYS.into_iter().find(|key| line.starts_with(key.as_bytes())) else { continue };
+        let name = &line[key.len()..];
+        inputs[place] = with_letters_from(bytes, offset);
+        let next = refusal(&inputs);
         if next != Some(Refusal { number, offset }) {
             let places = barred_places(name).unwrap_or_else(|| panic!("seed {seed}"));
             *counts.entry((key, places)).or_insert(0) += 1;
         }
     }
     println!("names {counts:?}");
-    assert_eq!(counts.len(), 8);
+    assert_eq!(counts.len(), 4 * NAME_KEYS.len());
     assert!(counts.values().all(|&count| count >= 20));
 }
 
@@ -612,8 +621,8 @@ fn the_spelling_has_the_house_form() {
     }
 }
 
-/// 01's rule for finding, once more: glyph k of the query against record i + k.
-fn occurs_at(stream: &[u8], records: &[Record], query: &[QueryGlyph], i: usize) -> bool {
+/// 01's rule for finding, once more, with the names of 2026-01: glyph k of the query against record i + k.
+fn occurs_at(stream: &[u8], records: &[Record], families: &[Family], query: &[QueryGlyph], i: usize) -> bool {
     for k in 0..query.len() {
         if i + k >= records.len() {
             return false;
@@ -621,7 +630,8 @@ fn occurs_at(stream: &[u8], records: &[Record], query: &[QueryGlyph], i: usize) 
         let record = records[i + k];
         let name = &stream[record.place as usize..(record.place + record.length) as usize];
         let has_gap_as_asked = k == 0 || record.gap == query[k].gap;
-        if record.ordinal != records[i].ordinal || name != query[k].name || !has_gap_as_asked {
+        let has_name = names_match(families, name, &query[k].name);
+        if record.ordinal != records[i].ordinal || !has_name || !has_gap_as_asked {
             return false;
         }
     }
@@ -635,12 +645,12 @@ fn the_hits_are_those_of_the_rule() {
         let Ok(query) = read_query(&case.query) else {
             continue;
         };
-        let Ok(found) = find(&case.stream, &case.list, &case.query, NO_LIMIT) else {
+        let Ok(found) = find(&case.stream, &case.list, &case.families, &case.query, NO_LIMIT) else {
             continue;
         };
-        let all = 0..reading.records.len();
-        let hits: Vec<usize> =
-            all.filter(|&i| occurs_at(&case.stream, &reading.records, &query, i)).collect();
+        let families = families_of(&case.families);
+        let occurs = |&i: &usize| occurs_at(&case.stream, &reading.records, &families, &query, i);
+        let hits: Vec<usize> = (0..reading.records.len()).filter(occurs).collect();
         assert_eq!(found.records, reading.records, "seed {seed}");
         assert_eq!(found.hits, hits, "seed {seed}");
         hit_count += hits.len();
@@ -652,11 +662,11 @@ fn the_hits_are_those_of_the_rule() {
 #[test]
 fn the_spelling_has_the_same_hits() {
     for (seed, case, _) in accepted(SEEDS) {
-        let Ok(found) = find(&case.stream, &case.list, &case.query, NO_LIMIT) else {
+        let Ok(found) = find(&case.stream, &case.list, &case.families, &case.query, NO_LIMIT) else {
             continue;
         };
         let spelling = respell(&case.stream, &case.list, NO_LIMIT).unwrap();
-        let other = find(&spelling, &case.list, &case.query, NO_LIMIT).unwrap();
+        let other = find(&spelling, &case.list, &case.families, &case.query, NO_LIMIT).unwrap();
         assert_eq!(found.hits, other.hits, "seed {seed}");
     }
 }
@@ -677,7 +687,7 @@ fn hits_do_not_depend_on_the_commands_used() {
         let ways: Vec<Vec<u8>> = (0..4).map(|_| write_outline(&mut random, &outline)).collect();
         for query in queries {
             let hits_of =
-                |stream: &Vec<u8>| find(stream, OUTLINE_LIST, query, NO_LIMIT).map(|found| found.hits);
+                |stream: &Vec<u8>| find(stream, OUTLINE_LIST, b"", query, NO_LIMIT).map(|found| found.hits);
             let hits = hits_of(&ways[0]).unwrap();
             hit_count += hits.len();
             for way in &ways[1..] {
@@ -719,10 +729,12 @@ fn the_rewriter_judges_room_to_the_place() {
 #[test]
 fn the_finder_judges_room_to_the_place() {
     for (seed, case, reading) in accepted(20_000) {
-        let Ok(found) = find(&case.stream, &case.list, &case.query, NO_LIMIT) else { continue };
+        let Ok(found) = find(&case.stream, &case.list, &case.families, &case.query, NO_LIMIT) else {
+            continue;
+        };
         let refusal = |records, hits| {
             let rooms = Rooms { records, hits, ..NOTHING };
-            find(&case.stream, &case.list, &case.query, rooms).err()
+            find(&case.stream, &case.list, &case.families, &case.query, rooms).err()
         };
         let (records, hits) = (reading.records.len(), found.hits.len());
         assert_eq!(refusal(records, hits), None, "seed {seed}");

@@ -20,7 +20,7 @@ fn refused(number: u8, offset: usize) -> Option<Refusal> {
 }
 
 fn hits(stream: &[u8], query: &[u8]) -> Vec<usize> {
-    find(stream, LIST, query, Rooms::default()).unwrap().hits
+    find(stream, LIST, b"", query, Rooms::default()).unwrap().hits
 }
 
 #[test]

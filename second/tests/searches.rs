@@ -1,5 +1,8 @@
 //! The generated searches: they tell a wrong finder from a right one, and every refusal comes.
 
+mod naive;
+
+use naive::{families_of, has, names_match, Family};
 use second::find::{read_query, QueryGlyph};
 use second::generate::search::search;
 use second::{find, Record, Rooms};
@@ -11,8 +14,8 @@ const SEEDS: u64 = 20_000;
 struct Rule {
     /// whether a record is on the page of the run's first one
     page: fn(&Record, &Record) -> bool,
-    /// whether a name, of that record, is the name wanted
-    name: fn(&[u8], &Record, &[u8]) -> bool,
+    /// whether a name, of that record, is the name wanted, or in one family with it
+    name: fn(&[Family], &[u8], &Record, &[u8]) -> bool,
     /// whether the record of the k-th glyph has its gap mark as the query has gap lines
     gap: fn(usize, &Record, bool) -> bool,
     /// the hits that are listed, of those found by a query of so many glyphs
@@ -21,12 +24,12 @@ struct Rule {
 
 const RIGHT: Rule = Rule {
     page: |first, record| record.ordinal == first.ordinal,
-    name: |name, _, wanted| name == wanted,
+    name: |families, name, _, wanted| names_match(families, name, wanted),
     gap: |k, record, wanted| k == 0 || record.gap == wanted,
     list: |hits, _, _| hits,
 };
 
-const WRONG: [(&str, Rule); 16] = [
+const WRONG: [(&str, Rule); 29] = [
     ("page numbers for ordinals", Rule { page: |first, record| record.page == first.page, ..RIGHT }),
     ("no pages", Rule { page: |_, _| true, ..RIGHT }),
     ("gaps are not looked at", Rule { gap: |_, _, _| true, ..RIGHT }),
@@ -37,16 +40,143 @@ const WRONG: [(&str, Rule); 16] = [
     ("a gap may be missing", Rule { gap: |k, record, wanted| k == 0 || wanted || !record.gap, ..RIGHT }),
     ("the first gap is looked at", Rule { gap: |_, record, wanted| record.gap == wanted, ..RIGHT }),
     ("the first has a gap", Rule { gap: |k, record, wanted| record.gap == (wanted || k == 0), ..RIGHT }),
-    ("a longer name", Rule { name: |name, _, wanted| name.starts_with(wanted), ..RIGHT }),
+    (
+        "a longer name",
+        Rule {
+            name: |families, name, _, wanted| name.starts_with(wanted) || names_match(families, name, wanted),
+            ..RIGHT
+        },
+    ),
     (
         "a shorter name",
-        Rule { name: |name, _, wanted| !name.is_empty() && wanted.starts_with(name), ..RIGHT },
+        Rule {
+            name: |families, name, _, wanted| {
+                !name.is_empty() && wanted.starts_with(name) || names_match(families, name, wanted)
+            },
+            ..RIGHT
+        },
     ),
-    ("the first byte", Rule { name: |name, _, wanted| name.first() == wanted.first(), ..RIGHT }),
-    ("`N` is any glyph", Rule { name: |name, _, wanted| name.is_empty() || name == wanted, ..RIGHT }),
+    (
+        "the first byte",
+        Rule {
+            name: |families, name, _, wanted| {
+                name.first() == wanted.first() || names_match(families, name, wanted)
+            },
+            ..RIGHT
+        },
+    ),
+    (
+        "`N` is any glyph",
+        Rule {
+            name: |families, name, _, wanted| name.is_empty() || names_match(families, name, wanted),
+            ..RIGHT
+        },
+    ),
     (
         "`N` is a byte",
-        Rule { name: |name, record, wanted| name == wanted || is_index(record, wanted), ..RIGHT },
+        Rule {
+            name: |families, name, record, wanted| {
+                names_match(families, name, wanted) || is_index(record, wanted)
+            },
+            ..RIGHT
+        },
+    ),
+    ("no families", Rule { name: |_, name, _, wanted| name == wanted, ..RIGHT }),
+    ("families alone", Rule { name: |families, name, _, wanted| in_one(families, name, wanted), ..RIGHT }),
+    ("any families", Rule { name: |families, name, _, wanted| in_any(families, name, wanted), ..RIGHT }),
+    (
+        "first names are asked",
+        Rule {
+            name: |families, name, _, wanted| {
+                name == wanted || families.iter().any(|family| family[0] == wanted && has(family, name))
+            },
+            ..RIGHT
+        },
+    ),
+    (
+        "first names are found",
+        Rule {
+            name: |families, name, _, wanted| {
+                name == wanted || families.iter().any(|family| family[0] == name && has(family, wanted))
+            },
+            ..RIGHT
+        },
+    ),
+    (
+        "`same=` lines alone",
+        Rule {
+            name: |families, name, _, wanted| {
+                name == wanted
+                    || families.iter().any(|family| has(&family[1..], name) && has(&family[1..], wanted))
+            },
+            ..RIGHT
+        },
+    ),
+    (
+        "not the last of a family",
+        Rule {
+            name: |families, name, _, wanted| {
+                name == wanted
+                    || families
+                        .iter()
+                        .any(|family| in_one(&[family[..family.len() - 1].to_vec()], name, wanted))
+            },
+            ..RIGHT
+        },
+    ),
+    (
+        "the first family",
+        Rule {
+            name: |families, name, _, wanted| names_match(&families[..families.len().min(1)], name, wanted),
+            ..RIGHT
+        },
+    ),
+    (
+        "not the last family",
+        Rule {
+            name: |families, name, _, wanted| {
+                names_match(&families[..families.len().saturating_sub(1)], name, wanted)
+            },
+            ..RIGHT
+        },
+    ),
+    (
+        "not names of one byte",
+        Rule {
+            name: |families, name, _, wanted| {
+                name == wanted || name.len() > 1 && names_match(families, name, wanted)
+            },
+            ..RIGHT
+        },
+    ),
+    (
+        "beginnings of members",
+        Rule {
+            name: |families, name, _, wanted| {
+                names_match(families, name, wanted) || is_beginning(families, name, wanted)
+            },
+            ..RIGHT
+        },
+    ),
+    (
+        "one family with the next",
+        Rule {
+            name: |families, name, _, wanted| {
+                name == wanted
+                    || families.chunks(2).any(|two| has(&two.concat(), name) && has(&two.concat(), wanted))
+            },
+            ..RIGHT
+        },
+    ),
+    (
+        "`N` is a member by its digits",
+        Rule {
+            name: |families, name, record, wanted| {
+                names_match(families, name, wanted)
+                    || name.is_empty() && names_match(families, record.index.to_string().as_bytes(), wanted)
+            },
+            ..RIGHT
+        },
     ),
     ("past a hit", Rule { list: |hits, count, _| parted(&hits, count), ..RIGHT }),
     ("the first hit", Rule { list: |hits, _, _| hits[..hits.len().min(1)].to_vec(), ..RIGHT }),
@@ -56,6 +186,22 @@ const WRONG: [(&str, Rule); 16] = [
         Rule { list: |hits, count, records| before_last(&hits, count, records), ..RIGHT },
     ),
 ];
+
+fn in_one(families: &[Family], name: &[u8], wanted: &[u8]) -> bool {
+    families.iter().any(|family| has(family, name) && has(family, wanted))
+}
+
+/// Equal, or each in a family.
+fn in_any(families: &[Family], name: &[u8], wanted: &[u8]) -> bool {
+    let is_member = |name| families.iter().any(|family| has(family, name));
+    name == wanted || is_member(name) && is_member(wanted)
+}
+
+/// Whether a name is the beginning of a member of the family wanted.
+fn is_beginning(families: &[Family], name: &[u8], wanted: &[u8]) -> bool {
+    let begins = |family: &Family| family.iter().any(|member| member.starts_with(name));
+    !name.is_empty() && families.iter().any(|family| has(family, wanted) && begins(family))
+}
 
 fn is_index(record: &Record, wanted: &[u8]) -> bool {
     record.length == 0 && wanted.len() == 1 && record.index == u32::from(wanted[0])
@@ -79,11 +225,17 @@ fn before_last(hits: &[usize], count: usize, records: &[Record]) -> Vec<usize> {
     hits.iter().copied().filter(|&hit| hit + count < records.len()).collect()
 }
 
-fn hits_by(rule: Rule, stream: &[u8], records: &[Record], glyphs: &[QueryGlyph]) -> Vec<usize> {
+fn hits_by(
+    rule: Rule,
+    stream: &[u8],
+    records: &[Record],
+    families: &[Family],
+    glyphs: &[QueryGlyph],
+) -> Vec<usize> {
     let occurs = |run: &[Record]| {
         run.iter().zip(glyphs).enumerate().all(|(k, (record, glyph))| {
             (rule.page)(&run[0], record)
-                && (rule.name)(record.name(stream), record, &glyph.name)
+                && (rule.name)(families, record.name(stream), record, &glyph.name)
                 && (rule.gap)(k, record, glyph.gap)
         })
     };
@@ -98,9 +250,10 @@ fn wrong_finders_are_told_apart() {
     let mut told_apart = [0; WRONG.len()];
     for seed in 0..SEEDS {
         let case = search(seed);
-        let Ok(found) = find(&case.stream, &case.list, &case.query, Rooms::default()) else { continue };
-        let glyphs = read_query(&case.query).unwrap();
-        let hits = |rule| hits_by(rule, &case.stream, &found.records, &glyphs);
+        let answer = find(&case.stream, &case.list, &case.families, &case.query, Rooms::default());
+        let Ok(found) = answer else { continue };
+        let (families, glyphs) = (families_of(&case.families), read_query(&case.query).unwrap());
+        let hits = |rule| hits_by(rule, &case.stream, &found.records, &families, &glyphs);
         assert_eq!(hits(RIGHT), found.hits, "seed {seed}");
         for (place, (_, rule)) in WRONG.iter().enumerate() {
             told_apart[place] += u32::from(hits(*rule) != found.hits);
@@ -126,10 +279,10 @@ fn every_refusal_comes() {
     let mut counts = [0; 17];
     for seed in 0..SEEDS {
         let case = search(seed);
-        let refusal = find(&case.stream, &case.list, &case.query, Rooms::default()).err();
+        let refusal = find(&case.stream, &case.list, &case.families, &case.query, Rooms::default()).err();
         counts[refusal.map_or(0, |refusal| usize::from(refusal.number))] += 1;
     }
     println!("accepted {}, refused 1 to 16: {:?}", counts[0], &counts[1..]);
     assert!(counts[0] * 2 >= SEEDS, "{} are accepted", counts[0]);
-    assert!((1..=12).chain([16]).all(|number| counts[number] >= 10), "{counts:?}");
+    assert!((1..=12).chain([14, 16]).all(|number| counts[number] >= 10), "{counts:?}");
 }

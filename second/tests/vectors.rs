@@ -35,6 +35,11 @@ fn sources_hold() {
 }
 
 #[test]
+fn request_2026_01_holds() {
+    run_file("2026-01.vec", 496);
+}
+
+#[test]
 fn request_2026_02_holds() {
     run_file("2026-02.vec", 33);
 }
@@ -74,6 +79,13 @@ fn wrong_expectations_are_reported() {
         "body ca\nrecords 0\nreader ok",
         "body ca\nrecords 0\nrewriter refused 13 0",
         "body ca\nquery glyph=a\\n\nhits 0\nfinder ok",
+        "body ca\nfamilies name=a\\nsame=b\\n\nquery glyph=b\\n\nfind found 1 0\\n",
+        "families name=a\\n\njudged ok",
+        "families name=a\\nsame=b\\n\njudged refused 14 0",
+        "body ca\nfamilies name=x\\nsame=a\\n\nfirst 1 1 stream a",
+        "body ca\nfamilies name=a\\n\nfirst 1 1 families 5 a",
+        "body ca\nfirst 1 1 empty",
+        "body ca\nfirst 1 0 stream ",
     ];
     for lines in wrong {
         let message = run_all(&format!("case wrong-one\n{lines}\n"), &Second).unwrap_err();
@@ -100,6 +112,16 @@ fn wrong_files_are_reported() {
         "case a\nbody \\{a*}\nexpect ok",
         "case a\nbody ca\nstream ca\nexpect ok",
         "case a\nbody ca\nwish ok",
+        "case a\nbody \\#\nexpect ok",
+        "case a\njudged ok",
+        "case a\nbody ca\nfamilies\njudged ok",
+        "case a\nquery glyph=a\\n\nfamilies\njudged ok",
+        "case a\nbody ca\nfirst 1 1",
+        "case a\nbody ca\nfirst 1 1 stream",
+        "case a\nbody ca\nfirst 1 1 stream b",
+        "case a\nbody ca\nfirst 9999 1 stream b",
+        "case a\nbody ca\nfirst 1 1 families 0 a",
+        "case a\nbody ca\nfirst 18446744073709551615 1 empty",
     ];
     for text in wrong {
         assert!(run_all(text, &Second).is_err(), "{text}");
@@ -110,4 +132,6 @@ fn wrong_files_are_reported() {
 fn escapes_are_undone() {
     let bytes = unescape("a\\n\\t\\\\\\s\\x00\\xfF\\{ab\\n*3}z").unwrap();
     assert_eq!(bytes, b"a\n\t\\ \x00\xffab\nab\nab\nz");
+    assert_eq!(unescape("\\{a\\#\\n*3}").unwrap(), b"a0000\na0001\na0002\n");
+    assert_eq!(unescape("\\{\\\\#*2}").unwrap(), b"\\#\\#");
 }

@@ -31,7 +31,7 @@ pub fn bar(random: &mut Random, name: &mut [u8]) {
     }
 }
 
-/// Puts one in the name of a line `font=NAME` or `glyph=NAME`, where there is such a line; at times makes
+/// Puts one in the name of a line of this key, such as `font=` or `glyph=`, where there is such a line; at times makes
 /// that name longer first.
 pub fn bar_line(random: &mut Random, bytes: &mut Vec<u8>, key: &[u8]) {
     let mut lines = lines(bytes);

@@ -3,7 +3,7 @@
 use super::random::Random;
 
 /// Parts that mean something in one of the inputs.
-const PARTS: [&[u8]; 24] = [
+const PARTS: [&[u8]; 26] = [
     b"#",
     b"-",
     b"+",
@@ -27,6 +27,8 @@ const PARTS: [&[u8]; 24] = [
     b"byte=9\n",
     b"width=1\n",
     b"font=TR\n",
+    b"name=a\n",
+    b"same=b\n",
     b"\x00",
 ];
 

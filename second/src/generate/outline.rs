@@ -18,6 +18,9 @@ pub enum Item {
     Kern,
 }
 
+/// Longer names: beginnings of one another, names of one letter, what looks like a line of a list.
+const NAMES: [&[u8]; 8] = [b"ab", b"ab", b"ab", b"aa", b"abc", b"u0065_0301", b"name=a", b"same=b"];
+
 /// Every byte of an outline has a width here.
 pub const OUTLINE_LIST: &[u8] =
     b"unitwidth=1000\nfont=F\nbyte=97\nwidth=44\nbyte=98\nwidth=0\nbyte=99\nwidth=1000\n";
@@ -35,7 +38,7 @@ fn item(random: &mut Random) -> Item {
         3 => Item::Index,
         4 => Item::Named(b"'e"),
         5 if random.once_in(3) => Item::Named(&[b'n'; 64]),
-        5 => Item::Named(b"ab"),
+        5 => Item::Named(random.part(&NAMES)),
         6 => Item::Kern,
         _ => Item::Glyph(*random.pick(b"aab")),
     }

@@ -162,12 +162,12 @@ pub fn wrong_query(random: &mut Random, sound: &[u8]) -> Vec<u8> {
     query
 }
 
-/// Puts a line before one of the lines, or behind the last.
-fn insert_line(random: &mut Random, query: &mut Vec<u8>, line: &[u8]) {
-    let ends = query.iter().enumerate().filter(|(_, &byte)| byte == b'\n').map(|(place, _)| place + 1);
+/// Puts a line before one of the lines of a query or a list, or behind the last.
+pub fn insert_line(random: &mut Random, bytes: &mut Vec<u8>, line: &[u8]) {
+    let ends = bytes.iter().enumerate().filter(|(_, &byte)| byte == b'\n').map(|(place, _)| place + 1);
     let places: Vec<usize> = [0].into_iter().chain(ends).collect();
     let place = *random.pick(&places);
-    query.splice(place..place, line.iter().copied());
+    bytes.splice(place..place, line.iter().copied());
 }
 
 /// 63 to 66 glyph lines, and at times something behind them.

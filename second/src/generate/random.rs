@@ -40,6 +40,15 @@ impl Random {
         parts[self.below(parts.len())]
     }
 
+    /// The items in another order.
+    pub fn shuffled<T: Clone>(&mut self, items: &[T]) -> Vec<T> {
+        let mut items = items.to_vec();
+        for place in (1..items.len()).rev() {
+            items.swap(place, self.below(place + 1));
+        }
+        items
+    }
+
     pub fn byte(&mut self) -> u8 {
         self.number() as u8
     }
