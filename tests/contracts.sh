@@ -9,7 +9,7 @@ failed=0
 
 # The definitions that a crate cites, and a function's lines from its name up to the brace that opens the body.
 promise() {
-    sed -n -e '/^ghost use/p' -e "/^pub .*fn $2(/,/^{\$/p" "crates/$1/src/lib.rt" | sed '$d'
+    sed -n -e '/^ghost use/p' -e "/^pub .*fn $2[(<]/,/^{\$/p" "crates/$1/src/lib.rt" | sed '$d'
 }
 
 held() {
@@ -25,5 +25,8 @@ for routine in read find respell judge; do
     held "$routine" "$routine"
     held "capi_$routine" "mrkvandel_$routine"
 done
+held first_name name_part
+held first_name first_name
+held capi_first_name mrkvandel_first_name
 echo "$passed passed, $failed failed"
 [ "$failed" -eq 0 ]

@@ -12,4 +12,7 @@ fields = record {
   respell-refused = λ number offset. record { refusal-is = refl; offset-is = refl; len-is = refl };
   judged = λ records entries pages spelling. record { refusal-is = refl; offset-is = refl; records-is = refl; entries-is = refl; pages-is = refl; spelling-is = refl };
   judge-refused = λ number offset. record { refusal-is = refl; offset-is = refl; records-is = refl; entries-is = refl; pages-is = refl; spelling-is = refl };
+  nowhere = record { source-is = refl; place-is = refl; len-is = refl };
+  in-stream = λ place len. record { source-is = refl; place-is = refl; len-is = refl };
+  in-families = λ place len. record { source-is = refl; place-is = refl; len-is = refl };
 }

@@ -12,7 +12,9 @@ use Rattle.rules.specs.declared.Respelling.{Respelling}
 use Rattle.rules.specs.declared.Respelling.the-variants as S
 use Rattle.rules.specs.declared.Judging.{Judging}
 use Rattle.rules.specs.declared.Judging.the-variants as J
-use Rattle.capi_answers.specs.Flat.{flatReadingBy, flatReading, flatFinding, flatRespelling, flatJudging}
+use Rattle.rules.specs.declared.NamePart.{NamePart}
+use Rattle.rules.specs.declared.NamePart.the-variants as N
+use Rattle.capi_answers.specs.Flat.{flatReadingBy, flatReading, flatFinding, flatRespelling, flatJudging, flatPart}
 
 module _ (r : Reading) (a : ReadAnswer) (e : a ≡ r .answer) where
   pub reading-accepted : (records entries pages : ℕ) (h v : ℤ) → a ≡ R.Accepted records entries pages h v
@@ -42,4 +44,14 @@ judging-accepted j records entries pages spelling is = ap flatJudging (sym is)
 pub judging-refused : (j : Judging) (number offset : ℕ) → j ≡ J.Refused number offset → record { offset = offset; records = 0; entries = 0; spelling = 0; refusal = number; pages = 0 } ≡ flatJudging j
 judging-refused j number offset is = ap flatJudging (sym is)
 
-pub ruleset flattening = (reading-accepted, reading-refused, finding-accepted, finding-refused, respelling-accepted, respelling-refused, judging-accepted, judging-refused, needs)
+module _ (p : NamePart) where
+  pub part-nowhere : p ≡ N.Nowhere → record { place = 0; len = 0; source = 0 } ≡ flatPart p
+  part-nowhere is = ap flatPart (sym is)
+
+  pub part-stream : (place len : ℕ) → p ≡ N.InStream place len → record { place = place; len = len; source = 1 } ≡ flatPart p
+  part-stream place len is = ap flatPart (sym is)
+
+  pub part-families : (place len : ℕ) → p ≡ N.InFamilies place len → record { place = place; len = len; source = 2 } ≡ flatPart p
+  part-families place len is = ap flatPart (sym is)
+
+pub ruleset flattening = (reading-accepted, reading-refused, finding-accepted, finding-refused, respelling-accepted, respelling-refused, judging-accepted, judging-refused, part-nowhere, part-stream, part-families, needs)

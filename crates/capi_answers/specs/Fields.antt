@@ -7,11 +7,13 @@ use Rattle.rules.specs.declared.ReadAnswer.the-variants as R
 use Rattle.rules.specs.declared.Finding.the-variants as F
 use Rattle.rules.specs.declared.Respelling.the-variants as S
 use Rattle.rules.specs.declared.Judging.the-variants as J
+use Rattle.rules.specs.declared.NamePart.the-variants as N
 use Rattle.capi_answers.specs.declared.ReadResult.{ReadResult}
 use Rattle.capi_answers.specs.declared.FindResult.{FindResult}
 use Rattle.capi_answers.specs.declared.RespellResult.{RespellResult}
 use Rattle.capi_answers.specs.declared.JudgeResult.{JudgeResult}
-use Rattle.capi_answers.specs.Flat.{flatReading, flatFinding, flatRespelling, flatJudging}
+use Rattle.capi_answers.specs.declared.FirstNameResult.{FirstNameResult}
+use Rattle.capi_answers.specs.Flat.{flatReading, flatFinding, flatRespelling, flatJudging, flatPart}
 
 -- what each result shows; refusal 0 is no number of 01, and says that nothing is refused
 pub record ReadShows (r : ReadResult) (refusal offset records entries pages : ℕ) (h v : ℤ) (glyph fill : Colour) : Type 0 where
@@ -44,6 +46,11 @@ pub record JudgeShows (r : JudgeResult) (refusal offset records entries pages sp
   pub pages-is : r .pages ≡ pages
   pub spelling-is : r .spelling ≡ spelling
 
+pub record PartShows (r : FirstNameResult) (source place len : ℕ) : Type 0 where
+  pub source-is : r .source ≡ source
+  pub place-is : r .place ≡ place
+  pub len-is : r .len ≡ len
+
 -- an acceptance has refusal 0 at 0 and what was answered; a refusal has its number and offset, and 0 for all else but the colours
 pub record FieldsOf : Type 0 where
   pub read : (glyph fill : Colour) (records entries pages : ℕ) (h v : ℤ)
@@ -56,3 +63,6 @@ pub record FieldsOf : Type 0 where
   pub respell-refused : (number offset : ℕ) → RespellShows (flatRespelling (S.Refused number offset)) number offset 0
   pub judged : (records entries pages spelling : ℕ) → JudgeShows (flatJudging (J.Accepted records entries pages spelling)) 0 0 records entries pages spelling
   pub judge-refused : (number offset : ℕ) → JudgeShows (flatJudging (J.Refused number offset)) number offset 0 0 0 0
+  pub nowhere : PartShows (flatPart N.Nowhere) 0 0 0
+  pub in-stream : (place len : ℕ) → PartShows (flatPart (N.InStream place len)) 1 place len
+  pub in-families : (place len : ℕ) → PartShows (flatPart (N.InFamilies place len)) 2 place len

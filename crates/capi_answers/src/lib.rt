@@ -1,12 +1,13 @@
-// What the reader, the finder, the rewriter and the judging answer to C, as flat structs. The header is include/mrkvandel.h.
+// What the reader, the finder, the rewriter, the judging and the first name answer to C, as flat structs. The header is include/mrkvandel.h.
 use rules::Colour;
 use rules::Finding;
 use rules::Judging;
+use rules::NamePart;
 use rules::ReadAnswer;
 use rules::Reading;
 use rules::Respelling;
 ghost use mathlib.Core.Path.{_≡_};
-ghost use Rattle.capi_answers.specs.Flat.{flatReading, flatFinding, flatRespelling, flatJudging};
+ghost use Rattle.capi_answers.specs.Flat.{flatReading, flatFinding, flatRespelling, flatJudging, flatPart};
 
 // The reader's answer. `refusal` is 0 where nothing is refused, else its number, with the offset; 80 bytes.
 #[repr(C)]
@@ -148,6 +149,36 @@ pub fn flat_judging(j: Judging) -> JudgeResult
             spelling: 0,
             refusal: number,
             pages: 0,
+        },
+    }
+}
+
+// Where a first name stands. `source` is 0 for nowhere, with place and length 0, 1 for the stream, 2 for the family list; 24 bytes.
+#[repr(C)]
+pub struct FirstNameResult {
+    pub place: usize,
+    pub len: usize,
+    pub source: u32,
+}
+
+pub fn flat_part(p: NamePart) -> FirstNameResult
+    ensures { λ x. ⌜ x ≡ flatPart p ⌝ }
+{
+    match p {
+        NamePart::Nowhere => FirstNameResult {
+            place: 0,
+            len: 0,
+            source: 0,
+        },
+        NamePart::InStream { place, len } => FirstNameResult {
+            place,
+            len,
+            source: 1,
+        },
+        NamePart::InFamilies { place, len } => FirstNameResult {
+            place,
+            len,
+            source: 2,
         },
     }
 }

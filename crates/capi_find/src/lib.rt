@@ -11,12 +11,13 @@ ghost use Rattle.capi_answers.specs.Flat.{flatFinding};
 pub extern "C" fn mrkvandel_find(
     stream: &[u8],
     widths: &[u8],
+    families: &[u8],
     query: &[u8],
     records: &mut [Record],
     hits: &mut [u32],
 ) -> FindResult
-    ensures { λ r. ⌜ ((a : Finding) × FindCall (now (stream .entry)) (now (widths .entry)) (now (query .entry)) (now (records .entry)) (now (hits .entry)) a (now (records .exit)) (now (hits .exit)) × (r ≡ flatFinding a)) ⌝ }
+    ensures { λ r. ⌜ ((a : Finding) × FindCall (now (stream .entry)) (now (widths .entry)) (now (families .entry)) (now (query .entry)) (now (records .entry)) (now (hits .entry)) a (now (records .exit)) (now (hits .exit)) × (r ≡ flatFinding a)) ⌝ }
 {
-    let f = find::find(stream, widths, query, records, hits);
+    let f = find::find(stream, widths, families, query, records, hits);
     capi_answers::flat_finding(f)
 }

@@ -24,7 +24,7 @@ use Rattle.laws_answers.specs.Statements.{cmdsOf}
 use Rattle.laws_answers.specs.Statements as T
 use Rattle.laws_answers.proofs.Theorems.{SoundInputs, sound-of, read-follow, read-says, all-well}
 use Rattle.laws_read.proofs.Runs.{well}
-use Rattle.laws_offsets.specs.Lists.{NoNewline}
+use Rattle.laws_offsets.specs.Groups.{NoNewline}
 use Rattle.demands.specs.Demands.{LineBreak, SoundList, ConsistsOf, ended, white, comment, one, Allowed, Accepted}
 
 -- ---- the commands that a stream consists of are those that are read

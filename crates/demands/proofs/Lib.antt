@@ -4,5 +4,7 @@ pub mod Clear
 pub mod ReadCalls
 pub mod Places
 pub mod SpellCalls
+pub mod Families
 pub mod FindCalls
+pub mod FirstNames
 pub mod Proved

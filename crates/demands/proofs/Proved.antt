@@ -1,7 +1,7 @@
 -- Every demand, proved: each is put together from what was proved of calls.
 use Prim.Native.Nat.{ℕ, _<_, _≤_}
 use native.Mathlib.Omega.{arith}
-use mathlib.Core.List.{List, map}
+use mathlib.Core.List.{List, [], map}
 use mathlib.Core.Logic.{_⊎_, inl, inr}
 use mathlib.Core.Path.{_≡_, refl, sym, ap, subst, _∙_}
 use lib.Dec.{ltb}
@@ -16,7 +16,7 @@ use Rattle.rules.specs.declared.Judging.the-variants as J
 use Rattle.rules.specs.State.{Env, Glyph, Item}
 use Rattle.rules.specs.Widths.{Widths, widthList}
 use Rattle.rules.specs.Record.{GlyphRow, ItemRow, Answer, refuse, answer}
-use Rattle.rules.specs.Answers.{streamMost, isOver, lengthOf, read, roomFor, readInto, readingOf, recordsOver, entriesOver, respellInto, respellingOf, bufferOver, findInto, findingOf, recordsFound, hitsOver, spellWith, judgingOf, judge}
+use Rattle.rules.specs.Answers.{streamMost, isOver, lengthOf, read, roomFor, readInto, readingOf, recordsOver, entriesOver, respellInto, respellingOf, bufferOver, foundIn, findInto, findingOf, recordsFound, hitsOver, spellWith, judgingOf, judge}
 use Rattle.rules.specs.Calls.{ReadCall, JudgeCall}
 use Rattle.rules.specs.Rules.{rules}
 use Rattle.laws.proofs.Cases.{on}
@@ -29,9 +29,13 @@ use Rattle.laws_motion.proofs.Runs.{in-every-run, in-every-list}
 use Rattle.laws_motion.proofs.Needed.{reasons-hold, phases-hold}
 use Rattle.laws_motion.proofs.Held.{recorded-holds, entered-holds, settings-hold, ends-hold}
 use Rattle.laws_arguments.proofs.Names.{refusesBarred}
+use Rattle.laws_find.proofs.Families.{match-none}
+use Rattle.laws_offsets.specs.Offsets.{InTableTo}
 use Rattle.laws_offsets.proofs.FontLines.{fontLines}
 use Rattle.laws_offsets.proofs.Framed as frame
+use Rattle.laws_answers.specs.Old.{oldFind}
 use Rattle.laws_answers.proofs.Judged.{judged}
+use Rattle.laws_answers.proofs.Old.{emptyFamilies}
 use Rattle.demands.specs.Demands as D
 use Rattle.demands.specs.Demands.{SoundList, Allowed, houseSpelling}
 use Rattle.demands.proofs.Allowed.{Stream, read-allowed}
@@ -40,7 +44,9 @@ use Rattle.demands.proofs.Clear.{each-clear, records-clear}
 use Rattle.demands.proofs.ReadCalls as read-calls
 use Rattle.demands.proofs.Places as places
 use Rattle.demands.proofs.SpellCalls as spell-calls
+use Rattle.demands.proofs.Families as families
 use Rattle.demands.proofs.FindCalls as find-calls
+use Rattle.demands.proofs.FirstNames as first
 
 -- ---- 1
 
@@ -52,30 +58,30 @@ answer-all = record {
   rewriter = λ s list o. (respellingOf (respellInto (length o) s list), bufferOver o (respellInto (length o) s list), record { answer = refl; buffer = refl });
   rewriter-one = λ s list o r r₂ o′ o₂′ c c₂. (c .answer ∙ sym (c₂ .answer), c .buffer ∙ sym (c₂ .buffer));
   rewriter-length = λ s list o r o′ c. spell-calls.buffer-length s list o r o′ c;
-  finder = λ s list q rs hs. (findingOf (findInto (length rs) (length hs) s list q), recordsFound rs (findInto (length rs) (length hs) s list q), hitsOver hs (findInto (length rs) (length hs) s list q), record { answer = refl; records = refl; hits = refl });
-  finder-one = λ s list q rs hs r r₂ rs′ rs₂′ hs′ hs₂′ c c₂. (c .answer ∙ sym (c₂ .answer), c .records ∙ sym (c₂ .records), c .hits ∙ sym (c₂ .hits));
-  finder-lengths = λ s list q rs hs r rs′ hs′ c. find-calls.lengths s list q rs hs r rs′ hs′ c;
+  finder = λ s list fl q rs hs. (findingOf (findInto (length rs) (length hs) s list fl q), recordsFound rs (findInto (length rs) (length hs) s list fl q), hitsOver hs (findInto (length rs) (length hs) s list fl q), record { answer = refl; records = refl; hits = refl });
+  finder-one = λ s list fl q rs hs r r₂ rs′ rs₂′ hs′ hs₂′ c c₂. (c .answer ∙ sym (c₂ .answer), c .records ∙ sym (c₂ .records), c .hits ∙ sym (c₂ .hits));
+  finder-lengths = λ s list fl q rs hs r rs′ hs′ c. find-calls.lengths s list fl q rs hs r rs′ hs′ c;
 }
 
 pub refuse-from-the-table : D.Refuse
 refuse-from-the-table = record {
   reader = λ s list rs es r rs′ es′ number at c h. read-calls.from-the-table s list rs es r rs′ es′ c number at h;
   rewriter = λ s list o o′ number at c. spell-calls.from-the-table s list o o′ number at c;
-  finder = λ s list q rs hs rs′ hs′ number at c. find-calls.from-the-table s list q rs hs rs′ hs′ number at c;
+  finder = λ s list fl q rs hs rs′ hs′ number at c. find-calls.from-the-table s list fl q rs hs rs′ hs′ number at c;
 }
 
 pub refuse-exactly : D.RefuseExactly
 refuse-exactly = record {
   reader = λ s list rs es r rs′ es′ number at c h. read-calls.refuses s list rs es r rs′ es′ c number at h;
   rewriter = λ s list o r o′ number at c h. spell-calls.refuses s list o r o′ c number at h;
-  finder = λ s list q rs hs r rs′ hs′ number at c h. find-calls.refuses s list q rs hs r rs′ hs′ c number at h;
+  finder = λ s list fl q rs hs r rs′ hs′ number at c h. find-calls.refuses s list fl q rs hs r rs′ hs′ c number at h;
 }
 
 pub leave-alone : D.LeaveAlone
 leave-alone = record {
   reader = λ s list rs es r rs′ es′ number at c h. read-calls.leaves s list rs es r rs′ es′ c number at h;
   rewriter = λ s list o o′ number at c. spell-calls.leaves s list o o′ number at c;
-  finder = λ s list q rs hs rs′ hs′ number at c. find-calls.leaves s list q rs hs rs′ hs′ number at c;
+  finder = λ s list fl q rs hs rs′ hs′ number at c. find-calls.leaves s list fl q rs hs rs′ hs′ number at c;
 }
 
 -- ---- 2
@@ -181,24 +187,54 @@ rewriting-changes-nothing s list o n o′ c o₂ r₂ o₂′ d h = spell-calls.
 
 pub find-exactly : D.FindExactly
 find-exactly = record {
-  answered = λ s list q rs hs r rs′ hs′ gs qs is c a w l p k. find-calls.answers s list q rs hs r rs′ hs′ c gs qs is a w l p k;
+  answered = λ s list fl q rs hs r rs′ hs′ fs gs qs is c z a w l p k. find-calls.answers s list fl q rs hs r rs′ hs′ c fs gs qs is z a w l p k;
   by-commands = find-calls.outline-keys;
   some = find-calls.some-list;
   one = find-calls.one-list;
-  as-the-reader = λ s list q rs hs n k rs′ hs′ es r rs₂′ es′ c d h. find-calls.as-the-reader s list q rs hs n k rs′ hs′ c es r rs₂′ es′ d h;
-  only = λ s list q rs hs n k rs′ hs′ c. find-calls.only-found s list q rs hs n k rs′ hs′ c;
+  as-the-reader = λ s list fl q rs hs n k rs′ hs′ es r rs₂′ es′ c d h. find-calls.as-the-reader s list fl q rs hs n k rs′ hs′ c es r rs₂′ es′ d h;
+  only = λ s list fl q rs hs n k rs′ hs′ c. find-calls.only-found s list fl q rs hs n k rs′ hs′ c;
 }
 
 pub by-any-command : D.ByAnyCommand
 by-any-command = record {
   forms = forms.five-forms;
-  no-difference = λ s list s₂ list₂ q rs rs₂ hs hs₂ r r₂ rs′ rs₂′ hs′ hs₂′ gs gs₂ qs is a a₂ o c c₂ w l p p₂ k k₂.
-      find-calls.same-by-keys s list s₂ list₂ q rs rs₂ hs hs₂ r r₂ rs′ rs₂′ hs′ hs₂′ gs gs₂ qs is a a₂ (find-calls.otherwise-keys s list s₂ list₂ gs gs₂ a a₂ o) c c₂ w l p p₂ k k₂;
+  no-difference = λ s list s₂ list₂ fl q rs rs₂ hs hs₂ r r₂ rs′ rs₂′ hs′ hs₂′ fs gs gs₂ qs is a a₂ o c c₂ z w l p p₂ k k₂.
+      find-calls.same-list s list s₂ list₂ fl q rs rs₂ hs hs₂ r r₂ rs′ rs₂′ hs′ hs₂′ fs gs gs₂ qs is a a₂ (find-calls.keys-same fs gs gs₂ (find-calls.otherwise-keys s list s₂ list₂ gs gs₂ a a₂ o)) c c₂ z w l p p₂ k k₂;
 }
 
 pub alike-answer-alike : D.AlikeAnswerAlike
-alike-answer-alike s list s₂ list₂ q rs rs₂ hs hs₂ r r₂ rs′ rs₂′ hs′ hs₂′ gs gs₂ qs is a a₂ h c c₂ w l p p₂ k k₂ =
-    find-calls.same-by-keys s list s₂ list₂ q rs rs₂ hs hs₂ r r₂ rs′ rs₂′ hs′ hs₂′ gs gs₂ qs is a a₂ (find-calls.alike-keys gs gs₂ h) c c₂ w l p p₂ k k₂
+alike-answer-alike s list s₂ list₂ fl q rs rs₂ hs hs₂ r r₂ rs′ rs₂′ hs′ hs₂′ fs gs gs₂ qs is a a₂ h c c₂ z w l p p₂ k k₂ =
+    find-calls.same-list s list s₂ list₂ fl q rs rs₂ hs hs₂ r r₂ rs′ rs₂′ hs′ hs₂′ fs gs gs₂ qs is a a₂ (find-calls.keys-same fs gs gs₂ (find-calls.alike-keys gs gs₂ h)) c c₂ z w l p p₂ k k₂
+
+pub families-answer-alike : D.FamiliesAnswerAlike
+families-answer-alike = find-calls.same-list
+
+pub family-lists : D.FamilyLists
+family-lists = families.family-lists
+
+pub empty-is-old : D.EmptyIsOld
+empty-is-old = record {
+  empty-sound = record { short = omega arith; says = emptyFamilies .no-family };
+  is-old = λ s list q rs hs r rs′ hs′ c.
+      let e : findInto (length rs) (length hs) s list [] q ≡ foundIn (length rs) (length hs) (oldFind s list q) = emptyFamilies .finder (length rs) (length hs) s list q in
+      record { answer = c .answer ∙ ap findingOf e; records = c .records ∙ ap (recordsFound rs) e; hits = c .hits ∙ ap (hitsOver hs) e };
+  was-so = λ s list q rs hs r rs′ hs′ c.
+      let e : foundIn (length rs) (length hs) (oldFind s list q) ≡ findInto (length rs) (length hs) s list [] q = sym (emptyFamilies .finder (length rs) (length hs) s list q) in
+      record { answer = c .answer ∙ ap findingOf e; records = c .records ∙ ap (recordsFound rs) e; hits = c .hits ∙ ap (hitsOver hs) e };
+  never-14 = λ s list q rs hs rs′ hs′ number at c e.
+      not-14 number (emptyFamilies .finder-numbers (length rs) (length hs) s list q number at (find-calls.refused-into s list [] q rs hs rs′ hs′ number at c)) e;
+  match = match-none;
+  matches = λ n m e. inl e;
+  occurs = λ qs gs i o. emptyFamilies .occurs qs (map D.looked gs) i o;
+  occurred = λ qs gs i o. emptyFamilies .occurred qs (map D.looked gs) i o;
+}
+  where
+    not-14 : (n : ℕ) → InTableTo 13 n → n ≡ 14 → ⊥
+    not-14 n (inl h) e = omega (arith, h, e)
+    not-14 n (inr h) e = omega (arith, h, e)
+
+pub first-names : D.FirstNames
+first-names = first.first-names
 
 -- ---- room, and judging
 
@@ -208,7 +244,7 @@ no-room = record {
   reader-only = λ s list rs es r rs′ es′ at c h. read-calls.only-no-room s list rs es r rs′ es′ c at h;
   rewriter = λ s list o r o′ w end gs xs c l a h. spell-calls.no-room s list o r o′ c w end gs xs l a h;
   rewriter-only = spell-calls.only-no-room;
-  finder = λ s list q rs hs r rs′ hs′ gs qs is c a w l h. find-calls.no-room s list q rs hs r rs′ hs′ c gs qs is a w l h;
+  finder = λ s list fl q rs hs r rs′ hs′ fs gs qs is c z a w l h. find-calls.no-room s list fl q rs hs r rs′ hs′ c fs gs qs is z a w l h;
   finder-only = find-calls.only-no-room;
 }
 

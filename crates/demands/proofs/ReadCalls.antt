@@ -140,8 +140,9 @@ module _ (s list : List ℕ) (rs : List Record) (es : List Entry) (r : Reading) 
     pub refused-kept : Kept (length rs) (length es) (read s list) (refuse number at)
     refused-kept = refused-call .3
 
-    pub from-the-table : OrRoom (ReadOffset s list) number at × Said s list [] number at
-    from-the-table = (offsets .reader (length rs) (length es) s list number at refused-into, by-number .reader (length rs) (length es) s list number at refused-into .0)
+    pub from-the-table : OrRoom (ReadOffset s list) number at × Said s list [] [] number at × (number ≡ 12 → ⊥) × (number ≡ 14 → ⊥)
+    from-the-table =
+        let x = by-number .reader (length rs) (length es) s list number at refused-into in (offsets .reader (length rs) (length es) s list number at refused-into, x .0, x .1, x .2)
 
   pub refuses : (number at : ℕ) → ReadOffset s list number at → r .answer ≡ R.Refused number at
   refuses number at o = ap (λ (y : Reading). y .answer) (c .answer ∙ ap readingOf (exactly .reader (length rs) (length es) s list number at o))

@@ -276,8 +276,9 @@ module _ (s list o o′ : List ℕ) (number at : ℕ) (c : RespellCall s list o 
   pub refused-into : respellInto (length o) s list ≡ notSpelled number at
   refused-into = refused-call .0
 
-  pub from-the-table : OrRoom (ReadOffset s list) number at × Said s list [] number at
-  from-the-table = (offsets .rewriter (length o) s list number at refused-into, by-number .rewriter (length o) s list number at refused-into .0)
+  pub from-the-table : OrRoom (ReadOffset s list) number at × Said s list [] [] number at × (number ≡ 12 → ⊥) × (number ≡ 14 → ⊥)
+  from-the-table =
+      let x = by-number .rewriter (length o) s list number at refused-into in (offsets .rewriter (length o) s list number at refused-into, x .0, x .1, x .2)
 
   pub refused-given : Given (length o) (respell s list) (notSpelled number at)
   refused-given = refused-call .2

@@ -1,8 +1,9 @@
 -- The department's demands, each sentence over the statement that says it. They are about calls: `ReadCall`, `RespellCall` and `FindCall`
--- (`rules`, Calls.antt) are the contracts of the reader, the rewriter and the finder. All is proved (proofs/).
+-- (`rules`, Calls.antt) are the contracts of the reader, the rewriter and the finder, `NamePartCall` and `FirstNameCall` those of the first
+-- name for a record (2026-01). All is proved (proofs/).
 --
--- s is a stream, list a width list, q a query; rs, es and hs are the lent rows of records, entries and record numbers, o is the lent
--- buffer; r is the answer, and what the rows and the buffer hold afterwards has a prime.
+-- s is a stream, list a width list, fl a family list (2026-01), q a query; rs, es and hs are the lent rows of records, entries and record
+-- numbers, o is the lent buffer; r is the answer, and what the rows and the buffer hold afterwards has a prime.
 use Prim.Native.Nat.{ℕ, _+_, _*_, _-_, _<_, _≤_}
 use mathlib.Core.Bool.{Bool, true, false}
 use mathlib.Core.List.{List, [], _∷_, _++_, map}
@@ -21,6 +22,8 @@ use Rattle.rules.specs.declared.Respelling.the-variants as S
 use Rattle.rules.specs.declared.Finding.{Finding}
 use Rattle.rules.specs.declared.Finding.the-variants as F
 use Rattle.rules.specs.declared.Judging.the-variants as J
+use Rattle.rules.specs.declared.NamePart.{NamePart}
+use Rattle.rules.specs.declared.NamePart.the-variants as N
 use Rattle.rules.specs.Bytes.{if_then_else_, bytes, origin}
 use Rattle.rules.specs.Act.{Axis, across, down, Act, glyph, index, to, by, page, font, size, device, resolution, init, stop, Cmd, just, word, pair}
 use Rattle.rules.specs.Scan.{got, bad, command}
@@ -28,23 +31,27 @@ use Rattle.rules.specs.Widths.{Widths, sound, widthList}
 use Rattle.rules.specs.State.{Env, Glyph, Item, went, start, steps, stopped}
 use Rattle.rules.specs.Record.{shown, lettersOf, colourOf}
 use Rattle.rules.specs.House.{signedDecimal, spelling, spellAll}
+use Rattle.rules.specs.Families.{Family, grouped, familyList}
 use Rattle.rules.specs.Find.{Wanted, Key}
-use Rattle.rules.specs.Calls.{ReadCall, RespellCall, FindCall, JudgeCall}
+use Rattle.rules.specs.Answers.{foundIn, findingOf, recordsFound, hitsOver}
+use Rattle.rules.specs.Calls.{ReadCall, RespellCall, FindCall, JudgeCall, NamePartCall, FirstNameCall}
 use Rattle.laws.specs.Barred.{Barred, NoBarred, SomeBarred}
 use Rattle.laws_arguments.specs.Names.{namedBytes, RefusesBarred}
 use Rattle.laws_read.specs.Outline.{signsOf, outline, keysFrom}
 use Rattle.laws_read.specs.Kept.{allKept}
 use Rattle.laws_read.specs.Spots.{spotsOf}
 use Rattle.laws_scan.specs.Texts.{Spacer, NoDigit, IntegersAsWritten, LineBreaks, IgnoredInLimit}
-use Rattle.laws_find.specs.Occurs.{OccursAt, Elem, Rising}
+use Rattle.laws_find.specs.Occurs.{Has, Match, OccursAt, Elem, Rising}
 use Rattle.laws_find.specs.Written.{White, NoWhite, GoodName, written, GoodQuery}
 use Rattle.laws_motion.specs.Motions.{InLimit, NumberTexts, Motions, Refusal10, Advances, Words}
 use Rattle.laws_motion.specs.Records.{Recorded, letters, isSome, Entered, Settings, AnswerHolds}
 use Rattle.laws_motion.specs.Runs.{InEveryRun, InEveryList}
 use Rattle.laws_motion.specs.Needs.{Phases, Reasons}
 use Rattle.laws_offsets.specs.Frame.{NoFraming}
-use Rattle.laws_offsets.specs.Lists.{NoNewline, FontLines}
+use Rattle.laws_offsets.specs.Groups.{NoNewline, FamilyTexts, FamilyLines}
+use Rattle.laws_offsets.specs.Lists.{FontLines, FamilyOffset}
 use Rattle.laws_offsets.specs.Offsets.{ReadOffset, FindOffset, OrRoom, Said}
+use Rattle.laws_answers.specs.Old.{oldFind, OldOccursAt}
 use Rattle.laws_house.specs.Lines.{HouseText}
 use Rattle.laws_needed.specs.Statement.{OnlyWhereItDiffers}
 
@@ -54,6 +61,21 @@ use Rattle.laws_needed.specs.Statement.{OnlyWhereItDiffers}
 pub record SoundList (list : List ℕ) (w : Widths) : Type 0 where
   pub short : length list ≤ 65_536
   pub says : widthList list ≡ sound w
+
+-- 2026-01, "a sound family list": at most 65,536 bytes, every line right; fs are its families (which lists are so, and how they are written:
+-- `FamilyLists`)
+pub record SoundFamilies (fl : List ℕ) (fs : List Family) : Type 0 where
+  pub short : length fl ≤ 65_536
+  pub says : familyList fl ≡ grouped fs
+
+-- "a wrong or too long family list": wrong at a place (`FamilyOffset`: `laws_offsets`, Lists.antt)
+abbrev pub UnsoundFamilies : List ℕ → Type 0
+UnsoundFamilies fl = (65_536 < length fl) ⊎ ((at : ℕ) × FamilyOffset fl at)
+
+-- f is one of these families
+abbrev pub FamilyIn : Family → List Family → Type 0
+FamilyIn f [] = ⊥
+FamilyIn f (g ∷ fs) = (f ≡ g) ⊎ FamilyIn f fs
 
 -- "Space, tab and newline are whitespace" (`White`: `laws_find`, Written.antt). "A spacer is any run, perhaps empty, of spaces and tabs."
 -- (`Spacer`: `laws_scan`, Texts.antt). "End of input counts as a line break."
@@ -144,45 +166,48 @@ pub record Answer : Type 0 where
   pub rewriter : (s list o : List ℕ) → (r : Respelling) × (o′ : List ℕ) × RespellCall s list o r o′
   pub rewriter-one : (s list o : List ℕ) (r r₂ : Respelling) (o′ o₂′ : List ℕ) → RespellCall s list o r o′ → RespellCall s list o r₂ o₂′ → (r ≡ r₂) × (o′ ≡ o₂′)
   pub rewriter-length : (s list o : List ℕ) (r : Respelling) (o′ : List ℕ) → RespellCall s list o r o′ → length o′ ≡ length o
-  pub finder : (s list q : List ℕ) (rs : List Record) (hs : List ℕ) → (r : Finding) × (rs′ : List Record) × (hs′ : List ℕ) × FindCall s list q rs hs r rs′ hs′
-  pub finder-one : (s list q : List ℕ) (rs : List Record) (hs : List ℕ) (r r₂ : Finding) (rs′ rs₂′ : List Record) (hs′ hs₂′ : List ℕ)
-      → FindCall s list q rs hs r rs′ hs′ → FindCall s list q rs hs r₂ rs₂′ hs₂′ → (r ≡ r₂) × (rs′ ≡ rs₂′) × (hs′ ≡ hs₂′)
-  pub finder-lengths : (s list q : List ℕ) (rs : List Record) (hs : List ℕ) (r : Finding) (rs′ : List Record) (hs′ : List ℕ)
-      → FindCall s list q rs hs r rs′ hs′ → (length rs′ ≡ length rs) × (length hs′ ≡ length hs)
+  pub finder : (s list fl q : List ℕ) (rs : List Record) (hs : List ℕ) → (r : Finding) × (rs′ : List Record) × (hs′ : List ℕ) × FindCall s list fl q rs hs r rs′ hs′
+  pub finder-one : (s list fl q : List ℕ) (rs : List Record) (hs : List ℕ) (r r₂ : Finding) (rs′ rs₂′ : List Record) (hs′ hs₂′ : List ℕ)
+      → FindCall s list fl q rs hs r rs′ hs′ → FindCall s list fl q rs hs r₂ rs₂′ hs₂′ → (r ≡ r₂) × (rs′ ≡ rs₂′) × (hs′ ≡ hs₂′)
+  pub finder-lengths : (s list fl q : List ℕ) (rs : List Record) (hs : List ℕ) (r : Finding) (rs′ : List Record) (hs′ : List ℕ)
+      → FindCall s list fl q rs hs r rs′ hs′ → (length rs′ ≡ length rs) × (length hs′ ≡ length hs)
 
 -- "The reader, rewriter and finder each accept, or refuse with a number and an offset from the table in 01." (An answer is the one or the
 -- other by its type.) `ReadOffset` and `FindOffset` are the table's rows: each number with its reason (of 3 to 10, that the command at fault
 -- is refused so: see `OutsideAt`, `laws_arguments`, for 6 and `As01Gives` for 7 to 10; of 16, `BarredIn`, `laws_arguments`) and what stands at
--- its offset, where no earlier reason is there; 13 at 0 for want of room; `Said` has the offsets by numbers (`laws_offsets`).
+-- its offset, where no earlier reason is there; 13 at 0 for want of room; `Said` has the offsets by numbers (`laws_offsets`). 12 and 14
+-- (2026-01: "a wrong list is refused as 14, offset of its first wrong line or its length where a line is missing at the end") are the
+-- finder's alone: the reader and the rewriter have no query and no family list, so empty ones stand in their `Said`.
 pub record Refuse : Type 0 where
   pub reader : (s list : List ℕ) (rs : List Record) (es : List Entry) (r : Reading) (rs′ : List Record) (es′ : List Entry) (number at : ℕ)
-      → ReadCall s list rs es r rs′ es′ → r .answer ≡ R.Refused number at → OrRoom (ReadOffset s list) number at × Said s list [] number at
+      → ReadCall s list rs es r rs′ es′ → r .answer ≡ R.Refused number at → OrRoom (ReadOffset s list) number at × Said s list [] [] number at × (number ≡ 12 → ⊥) × (number ≡ 14 → ⊥)
   pub rewriter : (s list o : List ℕ) (o′ : List ℕ) (number at : ℕ) → RespellCall s list o (S.Refused number at) o′
-      → OrRoom (ReadOffset s list) number at × Said s list [] number at
-  pub finder : (s list q : List ℕ) (rs : List Record) (hs : List ℕ) (rs′ : List Record) (hs′ : List ℕ) (number at : ℕ)
-      → FindCall s list q rs hs (F.Refused number at) rs′ hs′ → OrRoom (FindOffset s list q) number at × Said s list q number at
+      → OrRoom (ReadOffset s list) number at × Said s list [] [] number at × (number ≡ 12 → ⊥) × (number ≡ 14 → ⊥)
+  pub finder : (s list fl q : List ℕ) (rs : List Record) (hs : List ℕ) (rs′ : List Record) (hs′ : List ℕ) (number at : ℕ)
+      → FindCall s list fl q rs hs (F.Refused number at) rs′ hs′ → OrRoom (FindOffset s list fl q) number at × Said s list fl q number at
 
--- 01: "Each is given exactly for its reason." "Order: 1, 2, 12, then the stream from its start; at one command the smallest number. 13 comes
--- last, when all else passed." The other way: where a row of the table is there, that number and offset are answered, whatever is lent. At
--- one command (`Fault`, `laws_offsets`) that is one of 3 to 5 as it is scanned, which of them the rules say (`Scan.command`); 6 where it is
--- complete and an argument is outside its limit (`OutsideAt`, `laws_arguments`); 16 where all are in their limits and a byte of a name is barred
--- (2026-06: "tested after 6 and before 7"; `BarredIn`, `laws_arguments`); else one of 7 to 10 as it is performed, the smallest that has its
--- reason (`As01Gives`); and 7 behind `x s`. For 13 see `NoRoom`.
+-- 01: "Each is given exactly for its reason." "Order: 1, 2, 12, then the stream from its start; at one command the smallest number. 13
+-- comes last, when all else passed." 2026-01: 14 is "checked after 2 and before 12; over 65,536 bytes it is 1". The other way: where a row
+-- of the table is there, that number and offset are answered, whatever is lent. At one command (`Fault`, `laws_offsets`) that is one of 3
+-- to 5 as it is scanned, which of them the rules say (`Scan.command`); 6 where it is complete and an argument is outside its limit
+-- (`OutsideAt`, `laws_arguments`); 16 where all are in their limits and a byte of a name is barred (2026-06: "tested after 6 and before
+-- 7"; `BarredIn`, `laws_arguments`); else one of 7 to 10 as it is performed, the smallest that has its reason (`As01Gives`); and 7 behind
+-- `x s`. For 13 see `NoRoom`.
 pub record RefuseExactly : Type 0 where
   pub reader : (s list : List ℕ) (rs : List Record) (es : List Entry) (r : Reading) (rs′ : List Record) (es′ : List Entry) (number at : ℕ)
       → ReadCall s list rs es r rs′ es′ → ReadOffset s list number at → r .answer ≡ R.Refused number at
   pub rewriter : (s list o : List ℕ) (r : Respelling) (o′ : List ℕ) (number at : ℕ)
       → RespellCall s list o r o′ → ReadOffset s list number at → r ≡ S.Refused number at
-  pub finder : (s list q : List ℕ) (rs : List Record) (hs : List ℕ) (r : Finding) (rs′ : List Record) (hs′ : List ℕ) (number at : ℕ)
-      → FindCall s list q rs hs r rs′ hs′ → FindOffset s list q number at → r ≡ F.Refused number at
+  pub finder : (s list fl q : List ℕ) (rs : List Record) (hs : List ℕ) (r : Finding) (rs′ : List Record) (hs′ : List ℕ) (number at : ℕ)
+      → FindCall s list fl q rs hs r rs′ hs′ → FindOffset s list fl q number at → r ≡ F.Refused number at
 
 -- "A refusal leaves every row and buffer holding what it held before."
 pub record LeaveAlone : Type 0 where
   pub reader : (s list : List ℕ) (rs : List Record) (es : List Entry) (r : Reading) (rs′ : List Record) (es′ : List Entry) (number at : ℕ)
       → ReadCall s list rs es r rs′ es′ → r .answer ≡ R.Refused number at → (rs′ ≡ rs) × (es′ ≡ es)
   pub rewriter : (s list o : List ℕ) (o′ : List ℕ) (number at : ℕ) → RespellCall s list o (S.Refused number at) o′ → o′ ≡ o
-  pub finder : (s list q : List ℕ) (rs : List Record) (hs : List ℕ) (rs′ : List Record) (hs′ : List ℕ) (number at : ℕ)
-      → FindCall s list q rs hs (F.Refused number at) rs′ hs′ → (rs′ ≡ rs) × (hs′ ≡ hs)
+  pub finder : (s list fl q : List ℕ) (rs : List Record) (hs : List ℕ) (rs′ : List Record) (hs′ : List ℕ) (number at : ℕ)
+      → FindCall s list fl q rs hs (F.Refused number at) rs′ hs′ → (rs′ ≡ rs) × (hs′ ≡ hs)
 
 -- A refusal of the reader tells the default scheme, `d`, with four zeros as both colours (house).
 abbrev pub defaultColour : Colour
@@ -231,7 +256,7 @@ pub record NamesClear : Type 0 where
   pub allowed : (s : List ℕ) (w : Widths) (end : Env) (gs : List Glyph) (xs : List Item) (a : Allowed s w end gs xs) → EachClear (a .commands)
   pub records : (s : List ℕ) (w : Widths) (end : Env) (gs : List Glyph) (xs : List Item) → Allowed s w end gs xs → EachNameClear gs
   -- "In the three lists the old numbers 2, 12 and 14 are given for such a byte in a name": in a width list (`laws_offsets`, Lists.antt; the fonts
-  -- of a sound list: `InEveryList`); the query's are in `WellFormed`
+  -- of a sound list: `InEveryList`); the query's are in `WellFormed`, those of a family list in `FamilyLists` (`lines`)
   pub lists : FontLines
 
 -- 01: "Prologue: `x T`, `x r`, `x i`, in that order, nothing before or between but whitespace and comments. `x s` ends the stream; behind it
@@ -418,19 +443,36 @@ pub record WellFormed (q : List ℕ) (qs : List Wanted) : Type 0 where
   pub text : q ≡ written qs
   pub good : GoodQuery qs
 
+-- 2026-01, which family lists are sound: "lines, each ended by a newline: `name=N` (N a string of 1 to 64 bytes) each followed by one or
+-- more `same=N`, at most 256 families of at most 8 names, no name in two families or twice in one"
+pub record FamilyLists : Type 0 where
+  -- the text of such families (`GoodFamilies`: `laws_offsets`, Groups.antt) says these families, and no other text says any
+  pub texts : FamilyTexts
+  -- line by line: behind a sound list a `name` or `same` line is right exactly for a good new name that there is room for (by 2026-06 one
+  -- with a barred byte is not good), a `name` line wants its `same` line, and every other line is the first wrong one
+  pub lines : FamilyLines
+  -- every list is sound, too long, or wrong at a place; never sound and one of the others; and it has one row of families alone
+  pub each : (fl : List ℕ) → ((fs : List Family) × SoundFamilies fl fs) ⊎ UnsoundFamilies fl
+  pub not-both : (fl : List ℕ) (fs : List Family) → SoundFamilies fl fs → UnsoundFamilies fl → ⊥
+  pub one : (fl : List ℕ) (fs fs₂ : List Family) → SoundFamilies fl fs → SoundFamilies fl fs₂ → fs ≡ fs₂
+  -- "no name in two families"
+  pub one-family : (fl : List ℕ) (fs : List Family) (f g : Family) (n : List ℕ) → SoundFamilies fl fs → FamilyIn f fs → FamilyIn g fs → Has f n → Has g n → f ≡ g
+
 -- what "01's rule" looks at in a glyph: "name bytes, gap mark and page ordinal"
 abbrev pub looked : Glyph → Key
 looked g = record { name = g .name; gap = g .gap; ordinal = g .ordinal }
 
--- "the number of every glyph record of the stream at which the query occurs by 01's rule, each once, earliest first, and no other"
-pub record ListOf (qs : List Wanted) (gs : List Glyph) (is : List ℕ) : Type 0 where
-  pub every : (i : ℕ) → OccursAt qs (map looked gs) i → Elem i is
-  pub no-other : (i : ℕ) → Elem i is → OccursAt qs (map looked gs) i
+-- "the number of every glyph record of the stream at which the query occurs by 01's rule, each once, earliest first, and no other". 2026-01:
+-- "Two names match if they are equal or in one family. The rule for finding in 01, and demand 3, read so from now on": `OccursAt` asks that
+-- names match (`Match`: `laws_find`, Occurs.antt), fs being the families.
+pub record ListOf (fs : List Family) (qs : List Wanted) (gs : List Glyph) (is : List ℕ) : Type 0 where
+  pub every : (i : ℕ) → OccursAt fs qs (map looked gs) i → Elem i is
+  pub no-other : (i : ℕ) → Elem i is → OccursAt fs qs (map looked gs) i
   pub each-once-earliest-first : Rising is
 
 -- "For any stream accepted with its width list, any well-formed query and rows large enough, whatever they held before, the finder's list
--- is exactly this: .. The number of records it answers is the stream's, and the number of hits is that list's length." The records are
--- in the row, and what lies behind records and list is kept.
+-- is exactly this: .. The number of records it answers is the stream's, and the number of hits is that list's length." 2026-01: "demand 3
+-- with a sound family list". The records are in the row, and what lies behind records and list is kept.
 pub record FoundAll (s : List ℕ) (rs : List Record) (hs : List ℕ) (gs : List Glyph) (is : List ℕ) (r : Finding) (rs′ : List Record) (hs′ : List ℕ) : Type 0 where
   pub list : take (length is) hs′ ≡ is
   pub numbers : r ≡ F.Accepted (length gs) (length is)
@@ -439,21 +481,43 @@ pub record FoundAll (s : List ℕ) (rs : List Record) (hs : List ℕ) (gs : List
   pub records-behind : drop (length gs) rs′ ≡ drop (length gs) rs
 
 pub record FindExactly : Type 0 where
-  pub answered : (s list q : List ℕ) (rs : List Record) (hs : List ℕ) (r : Finding) (rs′ : List Record) (hs′ : List ℕ) (gs : List Glyph) (qs : List Wanted) (is : List ℕ)
-      → FindCall s list q rs hs r rs′ hs′ → Accepted s list gs → WellFormed q qs → ListOf qs gs is → length gs ≤ length rs → length is ≤ length hs
+  pub answered : (s list fl q : List ℕ) (rs : List Record) (hs : List ℕ) (r : Finding) (rs′ : List Record) (hs′ : List ℕ) (fs : List Family) (gs : List Glyph) (qs : List Wanted) (is : List ℕ)
+      → FindCall s list fl q rs hs r rs′ hs′ → SoundFamilies fl fs → Accepted s list gs → WellFormed q qs → ListOf fs qs gs is → length gs ≤ length rs → length is ≤ length hs
       → FoundAll s rs hs gs is r rs′ hs′
   -- What is looked at goes by the commands alone: names, gap marks and page ordinals are those of the outline (`laws_read`, Outline.antt),
   -- in which a glyph has its name, `w`, `n` and a negative `N` are gaps, and `p` begins a page.
   pub by-commands : (s list : List ℕ) (gs : List Glyph) (a : Accepted s list gs) → map looked gs ≡ keysFrom 0 0 (outline (a .allowed .commands))
-  -- there is such a list for every query and stream, and one alone
-  pub some : (qs : List Wanted) (gs : List Glyph) → GoodQuery qs → (is : List ℕ) × ListOf qs gs is
-  pub one : (qs : List Wanted) (gs : List Glyph) (is is₂ : List ℕ) → ListOf qs gs is → ListOf qs gs is₂ → is ≡ is₂
+  -- there is such a list for every sound family list, query and stream, and one alone
+  pub some : (fl : List ℕ) (fs : List Family) (qs : List Wanted) (gs : List Glyph) → SoundFamilies fl fs → GoodQuery qs → (is : List ℕ) × ListOf fs qs gs is
+  pub one : (fs : List Family) (qs : List Wanted) (gs : List Glyph) (is is₂ : List ℕ) → ListOf fs qs gs is → ListOf fs qs gs is₂ → is ≡ is₂
   -- "the record row, which it fills as the reader does": the very same row, place by place
-  pub as-the-reader : (s list q : List ℕ) (rs : List Record) (hs : List ℕ) (n k : ℕ) (rs′ : List Record) (hs′ : List ℕ) (es : List Entry) (r : Reading) (rs₂′ : List Record) (es′ : List Entry)
-      → FindCall s list q rs hs (F.Accepted n k) rs′ hs′ → ReadCall s list rs es r rs₂′ es′ → IsAccepted (r .answer) → rs′ ≡ rs₂′
+  pub as-the-reader : (s list fl q : List ℕ) (rs : List Record) (hs : List ℕ) (n k : ℕ) (rs′ : List Record) (hs′ : List ℕ) (es : List Entry) (r : Reading) (rs₂′ : List Record) (es′ : List Entry)
+      → FindCall s list fl q rs hs (F.Accepted n k) rs′ hs′ → ReadCall s list rs es r rs₂′ es′ → IsAccepted (r .answer) → rs′ ≡ rs₂′
   -- and nothing else is ever accepted
-  pub only : (s list q : List ℕ) (rs : List Record) (hs : List ℕ) (n k : ℕ) (rs′ : List Record) (hs′ : List ℕ) → FindCall s list q rs hs (F.Accepted n k) rs′ hs′
-      → (gs : List Glyph) × (qs : List Wanted) × (is : List ℕ) × Accepted s list gs × WellFormed q qs × ListOf qs gs is × FoundAll s rs hs gs is (F.Accepted n k) rs′ hs′
+  pub only : (s list fl q : List ℕ) (rs : List Record) (hs : List ℕ) (n k : ℕ) (rs′ : List Record) (hs′ : List ℕ) → FindCall s list fl q rs hs (F.Accepted n k) rs′ hs′
+      → (fs : List Family) × (gs : List Glyph) × (qs : List Wanted) × (is : List ℕ) × SoundFamilies fl fs × Accepted s list gs × WellFormed q qs × ListOf fs qs gs is
+      × FoundAll s rs hs gs is (F.Accepted n k) rs′ hs′
+
+-- 2026-01: "an empty list gives the old answers". The finder's call as it was before the request: without a family list, and with the rule
+-- that asks for equal name bytes (`oldFind`: `laws_answers`, Old.antt).
+pub record OldFindCall (s list q : List ℕ) (rs : List Record) (hs : List ℕ) (r : Finding) (rs′ : List Record) (hs′ : List ℕ) : Type 0 where
+  pub answer : r ≡ findingOf (foundIn (length rs) (length hs) (oldFind s list q))
+  pub records : rs′ ≡ recordsFound rs (foundIn (length rs) (length hs) (oldFind s list q))
+  pub hits : hs′ ≡ hitsOver hs (foundIn (length rs) (length hs) (oldFind s list q))
+
+pub record EmptyIsOld : Type 0 where
+  -- it is sound, and has no family
+  pub empty-sound : SoundFamilies [] []
+  -- the same answer and the same content of the rows, refusals included; both ways
+  pub is-old : (s list q : List ℕ) (rs : List Record) (hs : List ℕ) (r : Finding) (rs′ : List Record) (hs′ : List ℕ) → FindCall s list [] q rs hs r rs′ hs′ → OldFindCall s list q rs hs r rs′ hs′
+  pub was-so : (s list q : List ℕ) (rs : List Record) (hs : List ℕ) (r : Finding) (rs′ : List Record) (hs′ : List ℕ) → OldFindCall s list q rs hs r rs′ hs′ → FindCall s list [] q rs hs r rs′ hs′
+  -- so it is never refused as 14
+  pub never-14 : (s list q : List ℕ) (rs : List Record) (hs : List ℕ) (rs′ : List Record) (hs′ : List ℕ) (number at : ℕ) → FindCall s list [] q rs hs (F.Refused number at) rs′ hs′ → number ≡ 14 → ⊥
+  -- names match where their bytes are equal, and only there; a query occurs where it did
+  pub match : (n m : List ℕ) → Match [] n m → n ≡ m
+  pub matches : (n m : List ℕ) → n ≡ m → Match [] n m
+  pub occurs : (qs : List Wanted) (gs : List Glyph) (i : ℕ) → OccursAt [] qs (map looked gs) i → OldOccursAt qs (map looked gs) i
+  pub occurred : (qs : List Wanted) (gs : List Glyph) (i : ℕ) → OldOccursAt qs (map looked gs) i → OccursAt [] qs (map looked gs) i
 
 -- "In accepted streams it makes no difference to list or numbers by which of t, u, c, C or the old two-digit form a one-byte name was set."
 -- The bytes bs are set as names of one byte each, in order, by `c` or `C`, `t` or `u` words, or two digits, with any motions between them.
@@ -497,16 +561,18 @@ pub record SameList (r r₂ : Finding) (hs′ hs₂′ : List ℕ) : Type 0 wher
   pub numbers : r ≡ r₂
   pub list : (n k : ℕ) → r ≡ F.Accepted n k → take k hs′ ≡ take k hs₂′
 
+-- 2026-01: "demand 3 with a sound family list, the same one for both streams it compares"
 pub record ByAnyCommand : Type 0 where
   pub forms : FiveForms
-  pub no-difference : (s list s₂ list₂ q : List ℕ) (rs rs₂ : List Record) (hs hs₂ : List ℕ) (r r₂ : Finding) (rs′ rs₂′ : List Record) (hs′ hs₂′ : List ℕ) (gs gs₂ : List Glyph) (qs : List Wanted) (is : List ℕ)
+  pub no-difference : (s list s₂ list₂ fl q : List ℕ) (rs rs₂ : List Record) (hs hs₂ : List ℕ) (r r₂ : Finding) (rs′ rs₂′ : List Record) (hs′ hs₂′ : List ℕ) (fs : List Family) (gs gs₂ : List Glyph) (qs : List Wanted) (is : List ℕ)
       → (a : Accepted s list gs) → (a₂ : Accepted s₂ list₂ gs₂) → SetOtherwise (a .allowed .commands) (a₂ .allowed .commands)
-      → FindCall s list q rs hs r rs′ hs′ → FindCall s₂ list₂ q rs₂ hs₂ r₂ rs₂′ hs₂′ → WellFormed q qs → ListOf qs gs is
+      → FindCall s list fl q rs hs r rs′ hs′ → FindCall s₂ list₂ fl q rs₂ hs₂ r₂ rs₂′ hs₂′ → SoundFamilies fl fs → WellFormed q qs → ListOf fs qs gs is
       → length gs ≤ length rs → length gs₂ ≤ length rs₂ → length is ≤ length hs → length is ≤ length hs₂
       → SameList r r₂ hs′ hs₂′ × (r ≡ F.Accepted (length gs) (length is))
 
 -- "Take any two accepted streams, each with its own width list, that have equally many records, record by record alike in name bytes, gap
--- mark and page ordinal. On both, with rows large enough, every well-formed query gives the same list and the same numbers."
+-- mark and page ordinal. On both, with rows large enough, every well-formed query gives the same list and the same numbers." 2026-01: "with a
+-- sound family list, the same one for both streams it compares".
 abbrev pub Alike : List Glyph → List Glyph → Type 0
 Alike [] [] = Unit {0}
 Alike [] (g₂ ∷ gs₂) = ⊥
@@ -514,11 +580,83 @@ Alike (g ∷ gs) [] = ⊥
 Alike (g ∷ gs) (g₂ ∷ gs₂) = (g .name ≡ g₂ .name) × (g .gap ≡ g₂ .gap) × (g .ordinal ≡ g₂ .ordinal) × Alike gs gs₂
 
 abbrev pub AlikeAnswerAlike : Type 0
-AlikeAnswerAlike = (s list s₂ list₂ q : List ℕ) (rs rs₂ : List Record) (hs hs₂ : List ℕ) (r r₂ : Finding) (rs′ rs₂′ : List Record) (hs′ hs₂′ : List ℕ) (gs gs₂ : List Glyph) (qs : List Wanted) (is : List ℕ)
+AlikeAnswerAlike = (s list s₂ list₂ fl q : List ℕ) (rs rs₂ : List Record) (hs hs₂ : List ℕ) (r r₂ : Finding) (rs′ rs₂′ : List Record) (hs′ hs₂′ : List ℕ) (fs : List Family) (gs gs₂ : List Glyph) (qs : List Wanted) (is : List ℕ)
     → Accepted s list gs → Accepted s₂ list₂ gs₂ → Alike gs gs₂
-    → FindCall s list q rs hs r rs′ hs′ → FindCall s₂ list₂ q rs₂ hs₂ r₂ rs₂′ hs₂′ → WellFormed q qs → ListOf qs gs is
+    → FindCall s list fl q rs hs r rs′ hs′ → FindCall s₂ list₂ fl q rs₂ hs₂ r₂ rs₂′ hs₂′ → SoundFamilies fl fs → WellFormed q qs → ListOf fs qs gs is
     → length gs ≤ length rs → length gs₂ ≤ length rs₂ → length is ≤ length hs → length is ≤ length hs₂
     → SameList r r₂ hs′ hs₂′ × (r ≡ F.Accepted (length gs) (length is))
+
+-- "Two names match if they are equal or in one family. .. demand 3, read so from now on": the same of streams that are record by record alike
+-- but for names of one family
+abbrev pub AlikeByFamilies : List Family → List Glyph → List Glyph → Type 0
+AlikeByFamilies fs [] [] = Unit {0}
+AlikeByFamilies fs [] (g₂ ∷ gs₂) = ⊥
+AlikeByFamilies fs (g ∷ gs) [] = ⊥
+AlikeByFamilies fs (g ∷ gs) (g₂ ∷ gs₂) = Match fs (g .name) (g₂ .name) × (g .gap ≡ g₂ .gap) × (g .ordinal ≡ g₂ .ordinal) × AlikeByFamilies fs gs gs₂
+
+abbrev pub FamiliesAnswerAlike : Type 0
+FamiliesAnswerAlike = (s list s₂ list₂ fl q : List ℕ) (rs rs₂ : List Record) (hs hs₂ : List ℕ) (r r₂ : Finding) (rs′ rs₂′ : List Record) (hs′ hs₂′ : List ℕ) (fs : List Family) (gs gs₂ : List Glyph) (qs : List Wanted) (is : List ℕ)
+    → Accepted s list gs → Accepted s₂ list₂ gs₂ → AlikeByFamilies fs gs gs₂
+    → FindCall s list fl q rs hs r rs′ hs′ → FindCall s₂ list₂ fl q rs₂ hs₂ r₂ rs₂′ hs₂′ → SoundFamilies fl fs → WellFormed q qs → ListOf fs qs gs is
+    → length gs ≤ length rs → length gs₂ ≤ length rs₂ → length is ≤ length hs → length is ≤ length hs₂
+    → SameList r r₂ hs′ hs₂′ × (r ≡ F.Accepted (length gs) (length is))
+
+-- ==== 2026-01: the first name for a record
+
+-- "For the screen we also want the family's first name for a record": the first name of the family that a name is in; "A record in no family
+-- gives its own name"
+pub data FirstNameOf (fs : List Family) (name : List ℕ) : List ℕ → Type 0 where
+  in-family : (f : Family) → FamilyIn f fs → Has f name → FirstNameOf fs name (f .first)
+  in-none : ((f : Family) → FamilyIn f fs → Has f name → ⊥) → FirstNameOf fs name name
+
+-- "the name handed back is a part of the stream or of the family list, and nothing is copied": so many bytes from a place on, which lie in
+-- the one or the other; or the empty part
+pub data PartOf (s fl : List ℕ) : NamePart → List ℕ → Type 0 where
+  nowhere : PartOf s fl N.Nowhere []
+  of-stream : (place len : ℕ) → 1 ≤ len → place + len ≤ length s → PartOf s fl (N.InStream place len) (take len (drop place s))
+  of-families : (place len : ℕ) → 1 ≤ len → place + len ≤ length fl → PartOf s fl (N.InFamilies place len) (take len (drop place fl))
+
+-- what is called for a name at a place with a length comes to this part, and to these bytes
+pub record HandsBack (s fl : List ℕ) (place len : ℕ) (part : NamePart) (name : List ℕ) : Type 0 where
+  pub the-part : (r : NamePart) → NamePartCall s fl place len r → r ≡ part
+  pub the-bytes : (n : List ℕ) → FirstNameCall s fl place len n → n ≡ name
+
+-- of these records, in order, each gives the first name of its glyph's name
+abbrev pub EachFirstName : List ℕ → List ℕ → List Family → List Record → List Glyph → Type 0
+EachFirstName s fl fs [] [] = Unit {0}
+EachFirstName s fl fs [] (g ∷ gs) = ⊥
+EachFirstName s fl fs (k ∷ ks) [] = ⊥
+EachFirstName s fl fs (k ∷ ks) (g ∷ gs) = ((n : List ℕ) → FirstNameCall s fl (k .place) (k .len) n → FirstNameOf fs (g .name) n) × EachFirstName s fl fs ks gs
+
+-- s need not be accepted, and place and len are any numbers
+pub record FirstNames : Type 0 where
+  -- both calls have an answer, one each, and the bytes are those of the part
+  pub part : (s fl : List ℕ) (place len : ℕ) → (r : NamePart) × NamePartCall s fl place len r
+  pub part-one : (s fl : List ℕ) (place len : ℕ) (r r₂ : NamePart) → NamePartCall s fl place len r → NamePartCall s fl place len r₂ → r ≡ r₂
+  pub name : (s fl : List ℕ) (place len : ℕ) → (n : List ℕ) × FirstNameCall s fl place len n
+  pub name-one : (s fl : List ℕ) (place len : ℕ) (n n₂ : List ℕ) → FirstNameCall s fl place len n → FirstNameCall s fl place len n₂ → n ≡ n₂
+  pub a-part : (s fl : List ℕ) (place len : ℕ) (r : NamePart) (n : List ℕ) → NamePartCall s fl place len r → FirstNameCall s fl place len n → PartOf s fl r n
+  -- in a family: its first name, which stands in the list at the family's place
+  pub of-family : (s fl : List ℕ) (place len : ℕ) (fs : List Family) (f : Family) → SoundFamilies fl fs → 1 ≤ len → place + len ≤ length s → FamilyIn f fs → Has f (take len (drop place s))
+      → HandsBack s fl place len (N.InFamilies (f .place) (length (f .first))) (f .first)
+  pub stands : (fl : List ℕ) (fs : List Family) (f : Family) → SoundFamilies fl fs → FamilyIn f fs → take (length (f .first)) (drop (f .place) fl) ≡ f .first
+  -- "A record in no family gives its own name"
+  pub of-none : (s fl : List ℕ) (place len : ℕ) (fs : List Family) → SoundFamilies fl fs → 1 ≤ len → place + len ≤ length s → ((f : Family) → FamilyIn f fs → Has f (take len (drop place s)) → ⊥)
+      → HandsBack s fl place len (N.InStream place len) (take len (drop place s))
+  -- "an `N` record, or a place that doesn't lie in the stream, gives the empty part"; with any family list
+  pub empty : (s fl : List ℕ) (place len : ℕ) → (len ≡ 0) ⊎ (length s < place + len) → HandsBack s fl place len N.Nowhere []
+  -- "a wrong or too long family list counts here as an empty one": the same is handed back as with an empty one, so a name that lies in the
+  -- stream is its own
+  pub as-empty : (s fl : List ℕ) (place len : ℕ) (r : NamePart) (n : List ℕ) → UnsoundFamilies fl → NamePartCall s fl place len r → FirstNameCall s fl place len n
+      → NamePartCall s [] place len r × FirstNameCall s [] place len n
+  pub of-unsound : (s fl : List ℕ) (place len : ℕ) → UnsoundFamilies fl → 1 ≤ len → place + len ≤ length s → HandsBack s fl place len (N.InStream place len) (take len (drop place s))
+  -- all names of one family give one first name, in whatever streams they stand
+  pub one-for-all : (s s₂ fl : List ℕ) (place len place₂ len₂ : ℕ) (fs : List Family) (f : Family) (n n₂ : List ℕ) → SoundFamilies fl fs → FamilyIn f fs
+      → 1 ≤ len → place + len ≤ length s → Has f (take len (drop place s)) → 1 ≤ len₂ → place₂ + len₂ ≤ length s₂ → Has f (take len₂ (drop place₂ s₂))
+      → FirstNameCall s fl place len n → FirstNameCall s₂ fl place₂ len₂ n₂ → n ≡ n₂
+  -- "the family's first name for a record": of records that show these glyphs (as in `RecordedAll` and `FoundAll`), each gives the first name of
+  -- its glyph's name, which for `N` is empty and in no family
+  pub for-records : (s fl : List ℕ) (fs : List Family) (ks : List Record) (gs : List Glyph) → SoundFamilies fl fs → map (recorded s) ks ≡ map set gs → EachFirstName s fl fs ks gs
 
 -- ==== beside the demands: too little room, and judging
 
@@ -534,10 +672,10 @@ pub record NoRoom : Type 0 where
       → (length o < length (houseSpelling w (a .commands))) ⊎ (16_777_216 < length (houseSpelling w (a .commands))) → r ≡ S.Refused 13 0
   pub rewriter-only : (s list o o′ : List ℕ) (at : ℕ) → RespellCall s list o (S.Refused 13 at) o′
       → (w : Widths) × (end : Env) × (gs : List Glyph) × (xs : List Item) × SoundList list w × (a : Allowed s w end gs xs) × ((length o < length (houseSpelling w (a .commands))) ⊎ (16_777_216 < length (houseSpelling w (a .commands))))
-  pub finder : (s list q : List ℕ) (rs : List Record) (hs : List ℕ) (r : Finding) (rs′ : List Record) (hs′ : List ℕ) (gs : List Glyph) (qs : List Wanted) (is : List ℕ)
-      → FindCall s list q rs hs r rs′ hs′ → Accepted s list gs → WellFormed q qs → ListOf qs gs is → (length rs < length gs) ⊎ (length hs < length is) → r ≡ F.Refused 13 0
-  pub finder-only : (s list q : List ℕ) (rs : List Record) (hs : List ℕ) (at : ℕ) (rs′ : List Record) (hs′ : List ℕ) → FindCall s list q rs hs (F.Refused 13 at) rs′ hs′
-      → (gs : List Glyph) × (qs : List Wanted) × (is : List ℕ) × Accepted s list gs × WellFormed q qs × ListOf qs gs is × ((length rs < length gs) ⊎ (length hs < length is))
+  pub finder : (s list fl q : List ℕ) (rs : List Record) (hs : List ℕ) (r : Finding) (rs′ : List Record) (hs′ : List ℕ) (fs : List Family) (gs : List Glyph) (qs : List Wanted) (is : List ℕ)
+      → FindCall s list fl q rs hs r rs′ hs′ → SoundFamilies fl fs → Accepted s list gs → WellFormed q qs → ListOf fs qs gs is → (length rs < length gs) ⊎ (length hs < length is) → r ≡ F.Refused 13 0
+  pub finder-only : (s list fl q : List ℕ) (rs : List Record) (hs : List ℕ) (at : ℕ) (rs′ : List Record) (hs′ : List ℕ) → FindCall s list fl q rs hs (F.Refused 13 at) rs′ hs′
+      → (fs : List Family) × (gs : List Glyph) × (qs : List Wanted) × (is : List ℕ) × SoundFamilies fl fs × Accepted s list gs × WellFormed q qs × ListOf fs qs gs is × ((length rs < length gs) ⊎ (length hs < length is))
 
 -- judging (house) tells the room: how many records and entries, how many pages, and how many bytes the spelling has, one more than the limit
 -- where it is over it; or it refuses as the reader does where there is room

@@ -9,7 +9,7 @@ use borrow.Author.Tests.{lt-ltb, le-ltb, eq-eqb, ne-eqb}
 use Rattle.rules.specs.declared.Record.{Record}
 use Rattle.rules.specs.Find.{passes, glyphTest}
 use Rattle.name.specs.Part.{partOf}
-use Rattle.find_match.specs.Match.{keyBy, wantedIn}
+use Rattle.find_match.specs.Match.{keyBy, soughtIn}
 use Rattle.find_compare.specs.declared.Progress.{Progress}
 use Rattle.find_compare.specs.declared.Fed.{Fed}
 use Rattle.find_compare.specs.declared.FindAct.the-variants as A
@@ -55,16 +55,16 @@ module _ (st : Progress) where
     pub good-glyph : st .glyph < 64
     good-glyph = omega (arith, g .glyph, g .most)
 
-  module _ (s q rows : List ℕ) (r : Record) where
-    pub fits-is : (own : List ℕ) (page : ℕ) (t : Bool) → page ≡ pageOf st r → own ≡ partOf s (r .place) (r .len) → t ≡ passes (glyphTest page (wantedIn q rows (st .glyph)) (keyBy own (r .ordinal) (r .gap)))
-        → t ≡ fitsAt s q rows st r
+  module _ (s q fl rows : List ℕ) (r : Record) where
+    pub fits-is : (own : List ℕ) (page : ℕ) (t : Bool) → page ≡ pageOf st r → own ≡ partOf s (r .place) (r .len) → t ≡ passes (glyphTest page (soughtIn q fl rows (st .glyph)) (keyBy own (r .ordinal) (r .gap)))
+        → t ≡ fitsAt s q fl rows st r
     fits-is own page t p e f = f ∙ rw (p, e)
 
-    pub feed-fits : (page : ℕ) (t : Bool) (x : Fed) → t ≡ fitsAt s q rows st r → t ≡ true → page ≡ pageOf st r → x ≡ fitted st page → x ≡ feedOf s q rows st r
+    pub feed-fits : (page : ℕ) (t : Bool) (x : Fed) → t ≡ fitsAt s q fl rows st r → t ≡ true → page ≡ pageOf st r → x ≡ fitted st page → x ≡ feedOf s q fl rows st r
     unfolding feedOf
     feed-fits page t x e h p f = f ∙ ap (fitted st) p ∙ rw (← e, h)
 
-    pub feed-passes : (t : Bool) (x : Fed) → t ≡ fitsAt s q rows st r → t ≡ false → x ≡ passed st → x ≡ feedOf s q rows st r
+    pub feed-passes : (t : Bool) (x : Fed) → t ≡ fitsAt s q fl rows st r → t ≡ false → x ≡ passed st → x ≡ feedOf s q fl rows st r
     unfolding feedOf
     feed-passes t x e h f = f ∙ rw (← e, h)
 

@@ -7,7 +7,7 @@ use lib.Dec.{ltb, eqb}
 use Rattle.rules.specs.declared.Record.{Record}
 use Rattle.rules.specs.Bytes.{if_then_else_}
 use Rattle.rules.specs.Find.{passes, glyphTest}
-use Rattle.find_match.specs.Match.{keyIn, recordKey, wantedIn}
+use Rattle.find_match.specs.Match.{keyIn, recordKey, soughtIn}
 use Rattle.find_compare.specs.declared.Progress.{Progress}
 use Rattle.find_compare.specs.declared.Fed.{Fed}
 use Rattle.find_compare.specs.declared.FindAct.the-variants as A
@@ -28,8 +28,8 @@ nextGlyph st page = record { left = leftAt (st .records) (st .at) (st .glyph + 1
 abbrev pub pageOf : Progress → Record → ℕ
 pageOf st r = if eqb (st .glyph) 0 then r .ordinal else st .page
 
-abbrev pub fitsAt : List ℕ → List ℕ → List ℕ → Progress → Record → Bool
-fitsAt s q rows st r = passes (glyphTest (pageOf st r) (wantedIn q rows (st .glyph)) (keyIn s (recordKey r)))
+abbrev pub fitsAt : List ℕ → List ℕ → List ℕ → List ℕ → Progress → Record → Bool
+fitsAt s q fl rows st r = passes (glyphTest (pageOf st r) (soughtIn q fl rows (st .glyph)) (keyIn s (recordKey r)))
 
 abbrev pub passed : Progress → Fed
 passed st = record { act = A.Pass; state = nextRecord st (st .hits) }
@@ -45,8 +45,8 @@ fitted st page =
     if ltb (st .at + st .glyph + 1) (st .records) then record { act = A.Pass; state = nextGlyph st page } else
     passed st
 
-unfoldable pub feedOf : List ℕ → List ℕ → List ℕ → Progress → Record → Fed
-feedOf s q rows st r = if fitsAt s q rows st r then fitted st (pageOf st r) else passed st
+unfoldable pub feedOf : List ℕ → List ℕ → List ℕ → List ℕ → Progress → Record → Fed
+feedOf s q fl rows st r = if fitsAt s q fl rows st r then fitted st (pageOf st r) else passed st
 
 -- what keeps every place and sum within its bounds
 pub record SearchGood (st : Progress) : Type 0 where

@@ -105,21 +105,21 @@ fn page_of(st: Progress, r: Record) -> u32
 }
 
 // Whether the record is the glyph that is wanted.
-fn fits(s: &[u8], q: &[u8], rows: &[u32], st: Progress, r: Record) -> bool
-    requires { ⌜ (length (now rows) ≡ 193) × (st .glyph < 64) ⌝ }
-    ensures { λ t. ⌜ t ≡ fitsAt (now (s .entry)) (now (q .entry)) (now (rows .entry)) st r ⌝ }
+fn fits(s: &[u8], q: &[u8], fl: &[u8], rows: &[u32], st: Progress, r: Record) -> bool
+    requires { ⌜ (length (now rows) ≡ 4609) × (st .glyph < 64) ⌝ }
+    ensures { λ t. ⌜ t ≡ fitsAt (now (s .entry)) (now (q .entry)) (now (fl .entry)) (now (rows .entry)) st r ⌝ }
 {
     let page = page_of(st, r);
     let own = name::name_of(s, r);
-    find_match::fits(own, q, rows, st.glyph, page, r.ordinal, r.gap)
+    find_match::fits(own, q, fl, rows, st.glyph, page, r.ordinal, r.gap)
 }
 
 // One comparison.
-pub fn feed(s: &[u8], q: &[u8], rows: &[u32], st: Progress, r: Record) -> Fed
-    requires { ⌜ (length (now rows) ≡ 193) × SearchGood st ⌝ }
-    ensures { λ x. ⌜ x ≡ feedOf (now (s .entry)) (now (q .entry)) (now (rows .entry)) st r ⌝ }
+pub fn feed(s: &[u8], q: &[u8], fl: &[u8], rows: &[u32], st: Progress, r: Record) -> Fed
+    requires { ⌜ (length (now rows) ≡ 4609) × SearchGood st ⌝ }
+    ensures { λ x. ⌜ x ≡ feedOf (now (s .entry)) (now (q .entry)) (now (fl .entry)) (now (rows .entry)) st r ⌝ }
 {
-    let fit = fits(s, q, rows, st, r);
+    let fit = fits(s, q, fl, rows, st, r);
     if fit {
         let page = page_of(st, r);
         fitted(st, page)

@@ -8,11 +8,11 @@ use lib.Dec.{ltb}
 use lib.ListN.{length}
 use borrow.Author.Needs.{needs}
 use Rattle.rules.specs.Bytes.{if_then_else_}
-use Rattle.rules.specs.Find.{Wanted, glyphTest, passes, goesOn, occurs, hitsFrom, Key as RulesKey}
+use Rattle.rules.specs.Find.{Sought, glyphTest, passes, goesOn, occurs, hitsFrom, Key as RulesKey}
 use Rattle.laws.proofs.Cases.{on, no as impossible, and-left}
 use Rattle.name.specs.Part.{partOf}
 use Rattle.find_match.specs.declared.Key.{Key}
-use Rattle.find_match.specs.Match.{keyBy, keyIn, wantedIn, wantedFrom}
+use Rattle.find_match.specs.Match.{keyBy, keyIn, soughtIn, soughtFrom}
 use Rattle.find_outline.specs.declared.Outline.{Outline}
 use Rattle.find_outline.specs.declared.Moved.{Moved}
 use Rattle.find_outline.specs.Move.{passing, standing, moveOf}
@@ -88,43 +88,43 @@ pub ruleset followings = (following-seen, following-fair, following-less, needs)
 
 -- ---- one glyph
 
-module _ (s q rows : List ℕ) (j page : ℕ) (m : Moved) where
-  pub stands-none : m .found ≡ false → false ≡ standsAt s q rows j page m
+module _ (s q fl rows : List ℕ) (j page : ℕ) (m : Moved) where
+  pub stands-none : m .found ≡ false → false ≡ standsAt s q fl rows j page m
   stands-none t = rw t
 
-  pub stands-fit : (k : Key) (own : List ℕ) (r : Bool) → m .found ≡ true → k ≡ m .key → own ≡ partOf s (k .place) (k .len) → r ≡ passes (glyphTest page (wantedIn q rows j) (keyBy own (k .ordinal) (k .gap)))
-      → r ≡ standsAt s q rows j page m
+  pub stands-fit : (k : Key) (own : List ℕ) (r : Bool) → m .found ≡ true → k ≡ m .key → own ≡ partOf s (k .place) (k .len) → r ≡ passes (glyphTest page (soughtIn q fl rows j) (keyBy own (k .ordinal) (k .gap)))
+      → r ≡ standsAt s q fl rows j page m
   stands-fit k own r t g n e = rw (t, ← g, ← n, e)
 
 pub ruleset fitting = (stands-none, stands-fit, needs)
 
 -- ---- the glyphs from one on
 
-module _ (s q rows : List ℕ) (glyphs page : ℕ) (first : Moved) where
+module _ (s q fl rows : List ℕ) (glyphs page : ℕ) (first : Moved) where
   pub record Going (m : Moved) (j : ℕ) : Type 0 where
-    pub same : goesOn page (wantedFrom glyphs q rows 0) (seenFrom s first) ≡ goesOn page (wantedFrom (glyphs - j) q rows j) (seenFrom s m)
+    pub same : goesOn page (soughtFrom glyphs q fl rows 0) (seenFrom s first) ≡ goesOn page (soughtFrom (glyphs - j) q fl rows j) (seenFrom s m)
     pub seen : Seen s m
     pub within : j ≤ glyphs
 
   pub going-start : Seen s first → Going first 0
-  going-start f = record { same = ap (λ (k : ℕ). goesOn page (wantedFrom k q rows 0) (seenFrom s first)) (omega arith); seen = f; within = omega arith }
+  going-start f = record { same = ap (λ (k : ℕ). goesOn page (soughtFrom k q fl rows 0) (seenFrom s first)) (omega arith); seen = f; within = omega arith }
 
   module _ (m : Moved) (j : ℕ) (v : Going m j) where
     -- there are glyphs still
-    more-glyphs : j < glyphs → wantedFrom (glyphs - j) q rows j ≡ wantedIn q rows j ∷ wantedFrom (glyphs - (j + 1)) q rows (j + 1)
-    unfolding wantedFrom
-    more-glyphs h = ap (λ (k : ℕ). wantedFrom k q rows j) (let e : glyphs - j ≡ suc (glyphs - (j + 1)) = omega arith in e)
+    more-glyphs : j < glyphs → soughtFrom (glyphs - j) q fl rows j ≡ soughtIn q fl rows j ∷ soughtFrom (glyphs - (j + 1)) q fl rows (j + 1)
+    unfolding soughtFrom
+    more-glyphs h = ap (λ (k : ℕ). soughtFrom k q fl rows j) (let e : glyphs - j ≡ suc (glyphs - (j + 1)) = omega arith in e)
 
-    here : j < glyphs → goesOn page (wantedFrom glyphs q rows 0) (seenFrom s first) ≡ (standsAt s q rows j page m && goesOn page (wantedFrom (glyphs - (j + 1)) q rows (j + 1)) (map (keyIn s) (keysAt s (m .on))))
+    here : j < glyphs → goesOn page (soughtFrom glyphs q fl rows 0) (seenFrom s first) ≡ (standsAt s q fl rows j page m && goesOn page (soughtFrom (glyphs - (j + 1)) q fl rows (j + 1)) (map (keyIn s) (keysAt s (m .on))))
     unfolding goesOn
     here h = on (m .found) (λ t. v .same ∙ rw (more-glyphs h, t)) (λ t. v .same ∙ rw (more-glyphs h, t))
 
-    module _ (h : j < glyphs) (fit : Bool) (e : fit ≡ standsAt s q rows j page m) where
-      pub going-off : fit ≡ false → false ≡ goesOn page (wantedFrom glyphs q rows 0) (seenFrom s first)
+    module _ (h : j < glyphs) (fit : Bool) (e : fit ≡ standsAt s q fl rows j page m) where
+      pub going-off : fit ≡ false → false ≡ goesOn page (soughtFrom glyphs q fl rows 0) (seenFrom s first)
       going-off f = sym (here h ∙ rw (← e, f))
 
       pub going-found : fit ≡ true → m .found ≡ true
-      going-found f = and-left (m .found) (passes (glyphTest page (wantedIn q rows j) (keyIn s (m .key)))) (sym e ∙ f)
+      going-found f = and-left (m .found) (passes (glyphTest page (soughtIn q fl rows j) (keyIn s (m .key)))) (sym e ∙ f)
 
       pub going-fair : fit ≡ true → Fair (length s) (m .on)
       going-fair f = v .seen .fair (going-found f)
@@ -132,25 +132,25 @@ module _ (s q rows : List ℕ) (glyphs page : ℕ) (first : Moved) where
       pub going-more : (r : Moved) → fit ≡ true → seenFrom s r ≡ map (keyIn s) (keysAt s (m .on)) → Seen s r → Going r (j + 1)
       going-more r f p w = record { same = here h ∙ rw (← e, f, ← p); seen = w; within = omega arith }
 
-    pub going-done : glyphs ≤ j → true ≡ goesOn page (wantedFrom glyphs q rows 0) (seenFrom s first)
-    unfolding wantedFrom goesOn
+    pub going-done : glyphs ≤ j → true ≡ goesOn page (soughtFrom glyphs q fl rows 0) (seenFrom s first)
+    unfolding soughtFrom goesOn
     going-done h = let e : glyphs - j ≡ 0 = omega arith in sym (v .same ∙ rw e)
 
 pub ruleset goings = (going-start, going-fair, going-off, going-more, going-done, needs)
 
-pub occurs-is : (qs : List Wanted) (s : List ℕ) (m : Moved) (k : Key) (t : Bool) → m .found ≡ true → k ≡ m .key → t ≡ goesOn (k .ordinal) qs (seenFrom s m) → t ≡ occurs qs (seenFrom s m)
+pub occurs-is : (qs : List Sought) (s : List ℕ) (m : Moved) (k : Key) (t : Bool) → m .found ≡ true → k ≡ m .key → t ≡ goesOn (k .ordinal) qs (seenFrom s m) → t ≡ occurs qs (seenFrom s m)
 occurs-is qs s m k t h g f = f ∙ rw (h, g)
 
 pub ruleset occurring = (occurs-is, needs)
 
 -- ---- how many hits
 
-hits-length : (qs : List Wanted) (i j : ℕ) (ks : List RulesKey) → length (hitsFrom qs i ks) ≡ length (hitsFrom qs j ks)
+hits-length : (qs : List Sought) (i j : ℕ) (ks : List RulesKey) → length (hitsFrom qs i ks) ≡ length (hitsFrom qs j ks)
 unfolding hitsFrom
 hits-length qs i j [] = refl
 hits-length qs i j (k ∷ ks) = on (occurs qs (k ∷ ks)) (λ z. rw z (ap suc (hits-length qs (i + 1) (j + 1) ks))) (λ z. rw z (hits-length qs (i + 1) (j + 1) ks))
 
-hits-cons : (qs : List Wanted) (k : RulesKey) (ks : List RulesKey) → length (hitsFrom qs 0 (k ∷ ks)) ≡ one (occurs qs (k ∷ ks)) + length (hitsFrom qs 0 ks)
+hits-cons : (qs : List Sought) (k : RulesKey) (ks : List RulesKey) → length (hitsFrom qs 0 (k ∷ ks)) ≡ one (occurs qs (k ∷ ks)) + length (hitsFrom qs 0 ks)
 unfolding hitsFrom
 hits-cons qs k ks = on (occurs qs (k ∷ ks)) (λ z. rw z (let e : length (hitsFrom qs 1 ks) ≡ length (hitsFrom qs 0 ks) = hits-length qs 1 0 ks in omega arith)) (λ z. rw z (let e : length (hitsFrom qs 1 ks) ≡ length (hitsFrom qs 0 ks) = hits-length qs 1 0 ks in omega arith))
 
@@ -177,7 +177,7 @@ counted-one n b e = rw e
 pub counted-none : (n : ℕ) (b : Bool) → b ≡ false → n ≡ n + one b
 counted-none n b e = rw e (omega arith)
 
-module _ (s : List ℕ) (qs : List Wanted) where
+module _ (s : List ℕ) (qs : List Sought) where
   abbrev all : List RulesKey
   all = map (keyIn s) (keysAt s (standing 0 0 0))
 

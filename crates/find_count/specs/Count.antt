@@ -7,7 +7,7 @@ use lib.ListN.{length}
 use Rattle.rules.specs.Bytes.{if_then_else_}
 use Rattle.rules.specs.Find.{passes, glyphTest, Key as RulesKey}
 use Rattle.find_match.specs.declared.Key.{Key}
-use Rattle.find_match.specs.Match.{keyIn, wantedIn}
+use Rattle.find_match.specs.Match.{keyIn, soughtIn}
 use Rattle.find_outline.specs.declared.Outline.{Outline}
 use Rattle.find_outline.specs.declared.Moved.{Moved}
 use Rattle.find_keys.specs.Keys.{movesLeft, keysAt, Fair}
@@ -33,8 +33,8 @@ pub record Seen (s : List ℕ) (m : Moved) : Type 0 where
   pub fair : m .found ≡ true → Fair (length s) (m .on)
 
 -- the record that was found is the glyph numbered j
-abbrev pub standsAt : List ℕ → List ℕ → List ℕ → ℕ → ℕ → Moved → Bool
-standsAt s q rows j page m = m .found && passes (glyphTest page (wantedIn q rows j) (keyIn s (m .key)))
+abbrev pub standsAt : List ℕ → List ℕ → List ℕ → List ℕ → ℕ → ℕ → Moved → Bool
+standsAt s q fl rows j page m = m .found && passes (glyphTest page (soughtIn q fl rows j) (keyIn s (m .key)))
 
 abbrev pub one : Bool → ℕ
 one true = 1

@@ -8,7 +8,7 @@ ghost use lib.ListN.{length};
 ghost use mathlib.Core.List.{map};
 ghost use mathlib.Core.Bool.{true};
 ghost use Rattle.rules.specs.Find.{goesOn, occurs, hitsFrom};
-ghost use Rattle.find_match.specs.Match.{keyIn, wantedFrom};
+ghost use Rattle.find_match.specs.Match.{keyIn, soughtFrom};
 ghost use Rattle.find_outline.specs.Move.{standing, moveOf};
 ghost use Rattle.find_keys.specs.Keys.{movesLeft, keysAt, Fair};
 ghost use Rattle.find_count.specs.Count.{NextOf, turnsLeft, seenFrom, Seen, standsAt, one};
@@ -48,29 +48,37 @@ fn next_record(s: &[u8], o: Outline) -> Moved
 }
 
 // Whether the record that was found, if one was, is the glyph numbered j, the first one being on a page.
-fn stands(s: &[u8], q: &[u8], rows: &[u32], j: usize, page: u32, m: Moved) -> bool
-    requires { ⌜ (length (now rows) ≡ 193) × (j < 64) ⌝ }
-    ensures { λ r. ⌜ r ≡ standsAt (now (s .entry)) (now (q .entry)) (now (rows .entry)) j page m ⌝ }
+fn stands(s: &[u8], q: &[u8], fl: &[u8], rows: &[u32], j: usize, page: u32, m: Moved) -> bool
+    requires { ⌜ (length (now rows) ≡ 4609) × (j < 64) ⌝ }
+    ensures { λ r. ⌜ r ≡ standsAt (now (s .entry)) (now (q .entry)) (now (fl .entry)) (now (rows .entry)) j page m ⌝ }
 {
     let found = m.found;
     if found {
         let k = m.key;
         let own = name::name_at(s, k.place, k.len);
-        find_match::fits(own, q, rows, j, page, k.ordinal, k.gap)
+        find_match::fits(own, q, fl, rows, j, page, k.ordinal, k.gap)
     } else {
         false
     }
 }
 
 // Whether the glyphs of the query stand at the record that was found, on a page.
-fn goes_on(s: &[u8], q: &[u8], rows: &[u32], glyphs: usize, page: u32, first: Moved) -> bool
-    requires { ⌜ (length (now rows) ≡ 193) × (glyphs ≤ 64) × Seen (now s) first ⌝ }
-    ensures { λ r. ⌜ r ≡ goesOn page (wantedFrom glyphs (now (q .entry)) (now (rows .entry)) 0) (seenFrom (now (s .entry)) first) ⌝ }
+fn goes_on(
+    s: &[u8],
+    q: &[u8],
+    fl: &[u8],
+    rows: &[u32],
+    glyphs: usize,
+    page: u32,
+    first: Moved,
+) -> bool
+    requires { ⌜ (length (now rows) ≡ 4609) × (glyphs ≤ 64) × Seen (now s) first ⌝ }
+    ensures { λ r. ⌜ r ≡ goesOn page (soughtFrom glyphs (now (q .entry)) (now (fl .entry)) (now (rows .entry)) 0) (seenFrom (now (s .entry)) first) ⌝ }
 {
     let mut m = first;
     let mut j = 0;
     while j < glyphs {
-        let fit = stands(s, q, rows, j, page, m);
+        let fit = stands(s, q, fl, rows, j, page, m);
         if fit {
             let on = m.on;
             m = following(s, on);
@@ -91,12 +99,12 @@ fn following(s: &[u8], o: Outline) -> Moved
 }
 
 // Whether the query occurs at the record that was found.
-fn occurs_at(s: &[u8], q: &[u8], rows: &[u32], glyphs: usize, first: Moved) -> bool
-    requires { ⌜ (length (now rows) ≡ 193) × (glyphs ≤ 64) × Seen (now s) first × (first .found ≡ true) ⌝ }
-    ensures { λ r. ⌜ r ≡ occurs (wantedFrom glyphs (now (q .entry)) (now (rows .entry)) 0) (seenFrom (now (s .entry)) first) ⌝ }
+fn occurs_at(s: &[u8], q: &[u8], fl: &[u8], rows: &[u32], glyphs: usize, first: Moved) -> bool
+    requires { ⌜ (length (now rows) ≡ 4609) × (glyphs ≤ 64) × Seen (now s) first × (first .found ≡ true) ⌝ }
+    ensures { λ r. ⌜ r ≡ occurs (soughtFrom glyphs (now (q .entry)) (now (fl .entry)) (now (rows .entry)) 0) (seenFrom (now (s .entry)) first) ⌝ }
 {
     let k = first.key;
-    goes_on(s, q, rows, glyphs, k.ordinal, first)
+    goes_on(s, q, fl, rows, glyphs, k.ordinal, first)
 }
 
 fn counted(n: usize, hit: bool) -> usize
@@ -107,15 +115,15 @@ fn counted(n: usize, hit: bool) -> usize
 }
 
 // How many hits there are.
-pub fn count(s: &[u8], q: &[u8], rows: &[u32], glyphs: usize) -> usize
-    requires { ⌜ (length (now rows) ≡ 193) × (glyphs ≤ 64) × (length (now s) ≤ 16777216) ⌝ }
-    ensures { λ r. ⌜ r ≡ length (hitsFrom (wantedFrom glyphs (now (q .entry)) (now (rows .entry)) 0) 0 (map (keyIn (now (s .entry))) (keysAt (now (s .entry)) (standing 0 0 0)))) ⌝ }
+pub fn count(s: &[u8], q: &[u8], fl: &[u8], rows: &[u32], glyphs: usize) -> usize
+    requires { ⌜ (length (now rows) ≡ 4609) × (glyphs ≤ 64) × (length (now s) ≤ 16777216) ⌝ }
+    ensures { λ r. ⌜ r ≡ length (hitsFrom (soughtFrom glyphs (now (q .entry)) (now (fl .entry)) (now (rows .entry)) 0) 0 (map (keyIn (now (s .entry))) (keysAt (now (s .entry)) (standing 0 0 0)))) ⌝ }
 {
     let o = find_outline::standing(0, 0, 0);
     let mut m = following(s, o);
     let mut n = 0;
     while m.found {
-        let hit = occurs_at(s, q, rows, glyphs, m);
+        let hit = occurs_at(s, q, fl, rows, glyphs, m);
         n = counted(n, hit);
         let on = m.on;
         m = following(s, on);

@@ -11,11 +11,11 @@ use lib.Seq.{sets, drop-cons, getD-take}
 use borrow.Author.Tests.{eq-eqb, ne-eqb, lt-ltb, ltb-true, ltb-false, eqb-true}
 use Rattle.rules.specs.declared.Record.{Record}
 use Rattle.rules.specs.Bytes.{if_then_else_}
-use Rattle.rules.specs.Find.{Wanted, goesOn, hitsFrom, Key as RulesKey}
+use Rattle.rules.specs.Find.{Sought, goesOn, hitsFrom, Key as RulesKey}
 use Rattle.rules.specs.Record.{over}
 use Rattle.laws.proofs.Cases.{on, no as impossible, if-both, not-zero}
 use Rattle.read_model.proofs.Rows.{sets-append, over-is}
-use Rattle.find_match.specs.Match.{keyIn, recordKey, wantedFrom}
+use Rattle.find_match.specs.Match.{keyIn, recordKey, soughtFrom}
 use Rattle.find_compare.specs.declared.Progress.{Progress}
 use Rattle.find_compare.specs.declared.Fed.{Fed}
 use Rattle.find_compare.specs.declared.FindAct.{FindAct}
@@ -24,7 +24,7 @@ use Rattle.find_compare.specs.Compare.{leftAt, nextRecord, nextGlyph, pageOf, f
 use Rattle.find_search.specs.Search.{blank, hitsAfter, Looked, lookedAt, searchStepOf, searchFor, searchOf}
 use Rattle.find_search.proofs.Looking.{Well, feed-well}
 
-module _ (s q rows : List ℕ) (recs : List Record) (n m : ℕ) (enough : n ≤ length recs) where
+module _ (s q fl rows : List ℕ) (recs : List Record) (n m : ℕ) (enough : n ≤ length recs) where
   -- what finding sees of the records
   abbrev seen : Record → RulesKey
   seen r = keyIn s (recordKey r)
@@ -32,8 +32,8 @@ module _ (s q rows : List ℕ) (recs : List Record) (n m : ℕ) (enough : n ≤ 
   abbrev pub keys : List RulesKey
   keys = map seen (take n recs)
 
-  abbrev pub wanted : List Wanted
-  wanted = wantedFrom m q rows 0
+  abbrev pub wanted : List Sought
+  wanted = soughtFrom m q fl rows 0
 
   abbrev at : ℕ → Record
   at i = getD recs i blank
@@ -69,7 +69,7 @@ module _ (s q rows : List ℕ) (recs : List Record) (n m : ℕ) (enough : n ≤ 
 
   -- what is still to be found
   abbrev going : Progress → Bool
-  going st = goesOn (pageOf st (at (st .at + st .glyph))) (wantedFrom (m - st .glyph) q rows (st .glyph)) (drop (st .at + st .glyph) keys)
+  going st = goesOn (pageOf st (at (st .at + st .glyph))) (soughtFrom (m - st .glyph) q fl rows (st .glyph)) (drop (st .at + st .glyph) keys)
 
   abbrev rest : Progress → List ℕ
   rest st = if-hit (going st) (st .at) (from (st .at + 1))
@@ -127,10 +127,10 @@ module _ (s q rows : List ℕ) (recs : List Record) (n m : ℕ) (enough : n ≤ 
     here = at (st .at + st .glyph)
 
     abbrev onward : Bool
-    onward = goesOn (pageOf st here) (wantedFrom (m - (st .glyph + 1)) q rows (st .glyph + 1)) (drop (st .at + st .glyph + 1) keys)
+    onward = goesOn (pageOf st here) (soughtFrom (m - (st .glyph + 1)) q fl rows (st .glyph + 1)) (drop (st .at + st .glyph + 1) keys)
 
-    going-is : going st ≡ (fitsAt s q rows st here && onward)
-    unfolding goesOn wantedFrom
+    going-is : going st ≡ (fitsAt s q fl rows st here && onward)
+    unfolding goesOn soughtFrom
     going-is =
         let e : m - st .glyph ≡ suc (m - (st .glyph + 1)) = omega (arith, g .glyph, f .glyphs) in
         rw (e, keys-at (st .at + st .glyph) (omega (arith, g .inside, f .records)))
@@ -144,7 +144,7 @@ module _ (s q rows : List ℕ) (recs : List Record) (n m : ℕ) (enough : n ≤ 
         let h : st .hits < st .hmax = roomy z in
         rw (lt-ltb (st .hits) (st .hmax) h, e) (ap (λ (l : List ℕ). st .at ∷ l) (sym (next-rest st (st .hits + 1) f g)))
 
-    glyph-turned : fitsAt s q rows st here ≡ true → eqb (st .glyph + 1) (st .glyphs) ≡ false → st .at + st .glyph + 1 < st .records → Turned st (record { act = A.Pass; state = nextGlyph st (pageOf st here) })
+    glyph-turned : fitsAt s q fl rows st here ≡ true → eqb (st .glyph + 1) (st .glyphs) ≡ false → st .at + st .glyph + 1 < st .records → Turned st (record { act = A.Pass; state = nextGlyph st (pageOf st here) })
     glyph-turned e z h =
         let l : 0 < leftAt (st .records) (st .at) (st .glyph + 1) = omega (arith, g .inside, g .glyph, g .most) in
         let a : st .at + (st .glyph + 1) ≡ st .at + st .glyph + 1 = omega arith in
@@ -152,17 +152,17 @@ module _ (s q rows : List ℕ) (recs : List Record) (n m : ℕ) (enough : n ≤ 
         rw (ne-eqb (leftAt (st .records) (st .at) (st .glyph + 1)) 0 (λ y. omega arith), going-is, e, a, b)
 
     last-goes : st .glyph + 1 ≡ st .glyphs → onward ≡ true
-    unfolding goesOn wantedFrom
+    unfolding goesOn soughtFrom
     last-goes e = let z : m - (st .glyph + 1) ≡ 0 = omega (arith, f .glyphs) in rw z
 
     end-stops : eqb (st .glyph + 1) (st .glyphs) ≡ false → n ≤ st .at + st .glyph + 1 → onward ≡ false
-    unfolding goesOn wantedFrom
+    unfolding goesOn soughtFrom
     end-stops e h =
         let y : st .glyph + 1 ≡ st .glyphs → ⊥ = λ z. impossible (sym e ∙ eq-eqb (st .glyph + 1) (st .glyphs) z) in
         let z : m - (st .glyph + 1) ≡ suc (m - (st .glyph + 1) - 1) = omega (arith, g .glyph, f .glyphs, y) in
         rw (z, keys-end (st .at + st .glyph + 1) h)
 
-    fitted-turned : fitsAt s q rows st here ≡ true → Turned st (fitted st (pageOf st here))
+    fitted-turned : fitsAt s q fl rows st here ≡ true → Turned st (fitted st (pageOf st here))
     fitted-turned e =
         on (eqb (st .glyph + 1) (st .glyphs))
         (λ z. rw z (hit-turned (going-is ∙ rw (e, last-goes (eqb-true (st .glyph + 1) (st .glyphs) z)))))
@@ -170,10 +170,10 @@ module _ (s q rows : List ℕ) (recs : List Record) (n m : ℕ) (enough : n ≤ 
         (λ y. rw (z, y) (glyph-turned e z (ltb-true (st .at + st .glyph + 1) (st .records) y)))
         (λ y. rw (z, y) (passed-turned (going-is ∙ rw (e, end-stops z (let x : st .records ≤ st .at + st .glyph + 1 = ltb-false (st .at + st .glyph + 1) (st .records) y in omega (arith, f .records)))))))
 
-    pub feed-turned : Turned st (feedOf s q rows st here)
+    pub feed-turned : Turned st (feedOf s q fl rows st here)
     unfolding feedOf
     feed-turned =
-        on (fitsAt s q rows st here) (λ e. rw e (fitted-turned e)) (λ e. rw e (passed-turned (going-is ∙ rw e)))
+        on (fitsAt s q fl rows st here) (λ e. rw e (fitted-turned e)) (λ e. rw e (passed-turned (going-is ∙ rw e)))
 
   -- ---- where the hits go
 
@@ -184,10 +184,10 @@ module _ (s q rows : List ℕ) (recs : List Record) (n m : ℕ) (enough : n ≤ 
   abbrev Counts : Progress → Fed → Type 0
   Counts st x = Counted st (x .act) (x .state)
 
-  feed-counts : (st : Progress) (r : Record) → Counts st (feedOf s q rows st r)
+  feed-counts : (st : Progress) (r : Record) → Counts st (feedOf s q fl rows st r)
   unfolding feedOf
   feed-counts st r =
-      if-both (Counts st) (fitsAt s q rows st r) (fitted st (pageOf st r)) (passed st)
+      if-both (Counts st) (fitsAt s q fl rows st r) (fitted st (pageOf st r)) (passed st)
       (if-both (Counts st) (eqb (st .glyph + 1) (st .glyphs)) (hitAt st) _
       (if-both (Counts st) (ltb (st .hits) (st .hmax)) _ (passed st) (refl, refl, refl, refl) (refl, refl, refl))
       (if-both (Counts st) (ltb (st .at + st .glyph + 1) (st .records)) _ (passed st) (refl, refl, refl) (refl, refl, refl)))
@@ -205,10 +205,10 @@ module _ (s q rows : List ℕ) (recs : List Record) (n m : ℕ) (enough : n ≤ 
 
     module _ (p : Looked) (v : Found p) (h : 0 < p .state .left) where
       abbrev fed : Fed
-      fed = lookedAt s q rows recs p
+      fed = lookedAt s q fl rows recs p
 
       fed-well : Well (p .state) fed
-      fed-well = feed-well (p .state) (v .fair .good h) s q rows (at (p .state .at + p .state .glyph))
+      fed-well = feed-well (p .state) (v .fair .good h) s q fl rows (at (p .state .at + p .state .glyph))
 
       all-here : v .found ++ rest (p .state) ≡ hitsFrom wanted 0 keys
       all-here = ap (λ (b : Bool). v .found ++ (if b then [] else rest (p .state))) (sym (left-some (p .state) (v .fair) h)) ∙ v .all
@@ -221,7 +221,7 @@ module _ (s q rows : List ℕ) (recs : List Record) (n m : ℕ) (enough : n ≤ 
       turned : rest (p .state) ≡ given (fed .act) ++ rest-or (fed .state)
       turned = feed-turned (p .state) (v .fair) (v .fair .good h) roomy
 
-      pub found-more : Found (searchStepOf s q rows recs p)
+      pub found-more : Found (searchStepOf s q fl rows recs p)
       found-more = go (fed .act) turned (feed-counts (p .state) (at (p .state .at + p .state .glyph)))
         where
           go : (a : FindAct) → rest (p .state) ≡ given a ++ rest-or (fed .state) → Counted (p .state) a (fed .state) → Found (record { state = fed .state; hits = hitsAfter (p .hits) a })
@@ -242,7 +242,7 @@ module _ (s q rows : List ℕ) (recs : List Record) (n m : ℕ) (enough : n ≤ 
             hmax = fed-well .hmax ∙ v .hmax;
           }
 
-    found-for : (f : ℕ) (p : Looked) → Found p → p .state .left ≤ f → Found (searchFor f s q rows recs p) × (searchFor f s q rows recs p .state .left ≡ 0)
+    found-for : (f : ℕ) (p : Looked) → Found p → p .state .left ≤ f → Found (searchFor f s q fl rows recs p) × (searchFor f s q fl rows recs p .state .left ≡ 0)
     unfolding searchFor
     found-for zero p v l = (v, omega arith)
     found-for (suc f) p v l =
@@ -250,7 +250,7 @@ module _ (s q rows : List ℕ) (recs : List Record) (n m : ℕ) (enough : n ≤ 
         (λ z. rw z (v, eqb-true (p .state .left) 0 z))
         (λ z.
         let h : 0 < p .state .left = not-zero (p .state .left) z in
-        rw z (found-for f (searchStepOf s q rows recs p) (found-more p v h) (omega (arith, fed-well p v h .less))))
+        rw z (found-for f (searchStepOf s q fl rows recs p) (found-more p v h) (omega (arith, fed-well p v h .less))))
 
     -- from the first record on
     abbrev pub fresh : Progress
@@ -280,10 +280,10 @@ module _ (s q rows : List ℕ) (recs : List Record) (n m : ℕ) (enough : n ≤ 
             rw (eq-eqb (leftAt n 0 0) 0 l) (sym (from-end 0 h)))
 
     pub search-exact : n ≤ 16777216 → 1 ≤ m → m ≤ 64
-        → (searchOf s q rows recs (record { state = fresh; hits = old }) .hits ≡ over (hitsFrom wanted 0 keys) old) × (searchOf s q rows recs (record { state = fresh; hits = old }) .state .hits ≡ length (hitsFrom wanted 0 keys))
+        → (searchOf s q fl rows recs (record { state = fresh; hits = old }) .hits ≡ over (hitsFrom wanted 0 keys) old) × (searchOf s q fl rows recs (record { state = fresh; hits = old }) .state .hits ≡ length (hitsFrom wanted 0 keys))
     search-exact a b c =
-        let e : Found (searchOf s q rows recs (record { state = fresh; hits = old })) × (searchOf s q rows recs (record { state = fresh; hits = old }) .state .left ≡ 0) =
+        let e : Found (searchOf s q fl rows recs (record { state = fresh; hits = old })) × (searchOf s q fl rows recs (record { state = fresh; hits = old }) .state .left ≡ 0) =
         found-for (leftAt n 0 0) (record { state = fresh; hits = old }) (fresh-found a b c) (omega arith) in
-        let v : Found (searchOf s q rows recs (record { state = fresh; hits = old })) = e .0 in
-        let l : v .found ≡ hitsFrom wanted 0 keys = sym (append-nil (v .found)) ∙ ap (λ (k : Bool). v .found ++ (if k then [] else rest (searchOf s q rows recs (record { state = fresh; hits = old }) .state))) (sym (eq-eqb (searchOf s q rows recs (record { state = fresh; hits = old }) .state .left) 0 (e .1))) ∙ v .all in
+        let v : Found (searchOf s q fl rows recs (record { state = fresh; hits = old })) = e .0 in
+        let l : v .found ≡ hitsFrom wanted 0 keys = sym (append-nil (v .found)) ∙ ap (λ (k : Bool). v .found ++ (if k then [] else rest (searchOf s q fl rows recs (record { state = fresh; hits = old }) .state))) (sym (eq-eqb (searchOf s q fl rows recs (record { state = fresh; hits = old }) .state .left) 0 (e .1))) ∙ v .all in
         (v .row ∙ ap (sets old 0) l ∙ over-is (hitsFrom wanted 0 keys) old room, sym (v .count) ∙ ap length l)

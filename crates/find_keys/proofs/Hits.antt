@@ -3,10 +3,10 @@ use Prim.Native.Nat.{ℕ, suc, _+_, _≤_}
 use native.Mathlib.Omega.{arith}
 use mathlib.Core.List.{List, [], _∷_, _++_}
 use lib.ListN.{length}
-use Rattle.rules.specs.Find.{Wanted, Key, occurs, hitsFrom}
+use Rattle.rules.specs.Find.{Sought, Key, occurs, hitsFrom}
 use Rattle.laws.proofs.Cases.{if-both}
 
-pub hits-few : (qs : List Wanted) (i : ℕ) (ks : List Key) → length (hitsFrom qs i ks) ≤ length ks
+pub hits-few : (qs : List Sought) (i : ℕ) (ks : List Key) → length (hitsFrom qs i ks) ≤ length ks
 unfolding hitsFrom
 hits-few qs i [] = omega arith
 hits-few qs i (k ∷ ks) =

@@ -9,11 +9,13 @@ use lib.ListN.{length, take, drop, getD}
 use borrow.Author.Needs.{needs}
 use borrow.Author.Tests.{le-leb, lt-leb, eq-eqb, ne-eqb}
 use Rattle.rules.specs.Bytes.{same}
+use Rattle.rules.specs.Families.{isIn}
 use Rattle.rules.specs.Find.{otherPage, otherName, gapPresent, gapAbsent, passes, gapTest, glyphTest, sameName, Reason as RulesReason}
 use Rattle.name.specs.Part.{partOf}
+use Rattle.families_table.specs.Table.{kinOf}
 use Rattle.find_match.specs.declared.Reason.{Reason}
 use Rattle.find_match.specs.declared.Reason.the-variants as R
-use Rattle.find_match.specs.Match.{keyBy, gapAt, wantedIn, reasonOf, isFit}
+use Rattle.find_match.specs.Match.{keyBy, gapAt, soughtIn, reasonOf, isFit}
 
 -- ---- gaps
 
@@ -41,21 +43,32 @@ module _ (asked gap : ℕ) (a : asked ≡ 0 → ⊥) (b : asked ≡ 1 → ⊥) w
 
 pub ruleset gap-tests = (gap-any, gap-none, gap-there, gap-absent, gap-some, needs)
 
+-- ---- the name
+
+module _ (own q fl rows : List ℕ) (j place len : ℕ) (wanted : List ℕ) (t : Bool) (a : place ≡ getD rows (4352 + j) 0) (b : len ≡ getD rows (4416 + j) 0) (m : wanted ≡ partOf q place len) (e : t ≡ same own wanted) where
+  names : same own (soughtIn q fl rows j .name) ≡ t
+  names = rw (← a, ← b, ← m) (sym e)
+
+  pub name-is : t ≡ true → true ≡ sameName own (soughtIn q fl rows j)
+  name-is f = rw (names, f)
+
+  pub name-kin : (k : ℕ) (r : Bool) → t ≡ false → k ≡ getD rows (4545 + j) 0 → r ≡ isIn own (kinOf fl rows k) → r ≡ sameName own (soughtIn q fl rows j)
+  name-kin k r f c p = rw (names, f) (rw c at p)
+
+pub ruleset name-tests = (name-is, name-kin, needs)
+
 -- ---- page, name, gap
 
-module _ (own q rows : List ℕ) (j page ordinal gap : ℕ) where
-  pub other-page : (ordinal ≡ page → ⊥) → R.OtherPage ≡ reasonOf (glyphTest page (wantedIn q rows j) (keyBy own ordinal gap))
+module _ (own q fl rows : List ℕ) (j page ordinal gap : ℕ) where
+  pub other-page : (ordinal ≡ page → ⊥) → R.OtherPage ≡ reasonOf (glyphTest page (soughtIn q fl rows j) (keyBy own ordinal gap))
   other-page h = rw (ne-eqb ordinal page h)
 
-  module _ (place len : ℕ) (wanted : List ℕ) (t : Bool) (h : ordinal ≡ page) (a : place ≡ getD rows j 0) (b : len ≡ getD rows (64 + j) 0) (m : wanted ≡ partOf q place len) (e : t ≡ same own wanted) where
-    names : sameName own (wantedIn q rows j .name) ≡ t
-    names = rw (← a, ← b, ← m) (sym e)
+  module _ (t : Bool) (h : ordinal ≡ page) (e : t ≡ sameName own (soughtIn q fl rows j)) where
+    pub other-name : t ≡ false → R.OtherName ≡ reasonOf (glyphTest page (soughtIn q fl rows j) (keyBy own ordinal gap))
+    other-name f = rw (eq-eqb ordinal page h, ← e, f)
 
-    pub other-name : t ≡ false → R.OtherName ≡ reasonOf (glyphTest page (wantedIn q rows j) (keyBy own ordinal gap))
-    other-name f = rw (eq-eqb ordinal page h, names, f)
-
-    pub same-name : (g : ℕ) (r : Reason) → t ≡ true → g ≡ getD rows (128 + j) 0 → r ≡ reasonOf (gapTest (gapAt g) gap) → r ≡ reasonOf (glyphTest page (wantedIn q rows j) (keyBy own ordinal gap))
-    same-name g r f c p = rw (eq-eqb ordinal page h, names, f, p, c)
+    pub same-name : (g : ℕ) (r : Reason) → t ≡ true → g ≡ getD rows (4480 + j) 0 → r ≡ reasonOf (gapTest (gapAt g) gap) → r ≡ reasonOf (glyphTest page (soughtIn q fl rows j) (keyBy own ordinal gap))
+    same-name g r f c p = rw (eq-eqb ordinal page h, ← e, f, p, c)
 
 pub ruleset glyph-tests = (other-page, other-name, same-name, needs)
 

@@ -2,8 +2,8 @@
 ghost use mathlib.Core.Path.{_≡_};
 ghost use Prim.Native.Nat.{_<_};
 ghost use lib.ListN.{length};
-ghost use Rattle.rules.specs.Find.{passes, gapTest, glyphTest};
-ghost use Rattle.find_match.specs.Match.{keyBy, gapAt, wantedIn, reasonOf, isFit};
+ghost use Rattle.rules.specs.Find.{sameName, passes, gapTest, glyphTest};
+ghost use Rattle.find_match.specs.Match.{keyBy, gapAt, soughtIn, reasonOf, isFit};
 
 // What finding looks at in a record, its name by its place.
 pub struct Key {
@@ -49,28 +49,39 @@ pub fn wide(x: u32) -> usize
     x as usize
 }
 
-// The test of one glyph of the query, the first glyph's record being on a page: page, name, gap. The record's own name is a part of the
-// stream.
+// Whether a record's own name, a part of the stream, matches the name of a glyph of the query: it is that name, or one of its family.
+fn same_name(own: &[u8], q: &[u8], fl: &[u8], rows: &[u32], j: usize) -> bool
+    requires { ⌜ (length (now rows) ≡ 4609) × (j < 64) ⌝ }
+    ensures { λ r. ⌜ r ≡ sameName (now (own .entry)) (soughtIn (now (q .entry)) (now (fl .entry)) (now (rows .entry)) j) ⌝ }
+{
+    let place = wide(rows[4_352 + j]);
+    let len = wide(rows[4_416 + j]);
+    let wanted = name::name_at(q, place, len);
+    if scan_lex::same_bytes(own, wanted) {
+        return true;
+    }
+    families_table::is_kin(fl, rows, wide(rows[4_545 + j]), own)
+}
+
+// The test of one glyph of the query, the first glyph's record being on a page: page, name, gap.
 pub fn test(
     own: &[u8],
     q: &[u8],
+    fl: &[u8],
     rows: &[u32],
     j: usize,
     page: u32,
     ordinal: u32,
     gap: u32,
 ) -> Reason
-    requires { ⌜ (length (now rows) ≡ 193) × (j < 64) ⌝ }
-    ensures { λ r. ⌜ r ≡ reasonOf (glyphTest page (wantedIn (now (q .entry)) (now (rows .entry)) j) (keyBy (now (own .entry)) ordinal gap)) ⌝ }
+    requires { ⌜ (length (now rows) ≡ 4609) × (j < 64) ⌝ }
+    ensures { λ r. ⌜ r ≡ reasonOf (glyphTest page (soughtIn (now (q .entry)) (now (fl .entry)) (now (rows .entry)) j) (keyBy (now (own .entry)) ordinal gap)) ⌝ }
 {
     if ordinal != page {
         return Reason::OtherPage;
     }
-    let place = wide(rows[j]);
-    let len = wide(rows[64 + j]);
-    let wanted = name::name_at(q, place, len);
-    if scan_lex::same_bytes(own, wanted) {
-        gap_test(rows[128 + j], gap)
+    if same_name(own, q, fl, rows, j) {
+        gap_test(rows[4_480 + j], gap)
     } else {
         Reason::OtherName
     }
@@ -89,10 +100,19 @@ fn is_fit(r: Reason) -> bool
 }
 
 // Whether a record is the glyph numbered j, the first one being on a page.
-pub fn fits(own: &[u8], q: &[u8], rows: &[u32], j: usize, page: u32, ordinal: u32, gap: u32) -> bool
-    requires { ⌜ (length (now rows) ≡ 193) × (j < 64) ⌝ }
-    ensures { λ r. ⌜ r ≡ passes (glyphTest page (wantedIn (now (q .entry)) (now (rows .entry)) j) (keyBy (now (own .entry)) ordinal gap)) ⌝ }
+pub fn fits(
+    own: &[u8],
+    q: &[u8],
+    fl: &[u8],
+    rows: &[u32],
+    j: usize,
+    page: u32,
+    ordinal: u32,
+    gap: u32,
+) -> bool
+    requires { ⌜ (length (now rows) ≡ 4609) × (j < 64) ⌝ }
+    ensures { λ r. ⌜ r ≡ passes (glyphTest page (soughtIn (now (q .entry)) (now (fl .entry)) (now (rows .entry)) j) (keyBy (now (own .entry)) ordinal gap)) ⌝ }
 {
-    let r = test(own, q, rows, j, page, ordinal, gap);
+    let r = test(own, q, fl, rows, j, page, ordinal, gap);
     is_fit(r)
 }

@@ -68,17 +68,17 @@ module _ (st : Progress) (g : SearchGood st) where
       if-on (Well st) (eqb (st .glyph + 1) (st .glyphs)) (hitAt st) _ (λ z. hit-well)
       (λ z. if-on (Well st) (ltb (st .at + st .glyph + 1) (st .records)) _ (passed st) (λ y. glyph-well page z (ltb-true (st .at + st .glyph + 1) (st .records) y)) (λ y. passed-well))
 
-  pub feed-well : (s q rows : List ℕ) (r : Record) → Well st (feedOf s q rows st r)
+  pub feed-well : (s q fl rows : List ℕ) (r : Record) → Well st (feedOf s q fl rows st r)
   unfolding feedOf
-  feed-well s q rows r = if-both (Well st) (fitsAt s q rows st r) (fitted st (pageOf st r)) (passed st) (fitted-well (pageOf st r)) passed-well
+  feed-well s q fl rows r = if-both (Well st) (fitsAt s q fl rows st r) (fitted st (pageOf st r)) (passed st) (fitted-well (pageOf st r)) passed-well
 
 hits-length : (hits : List ℕ) (a : FindAct) → length (hitsAfter hits a) ≡ length hits
 hits-length hits (A.Hit k i) = length-set hits k i
 hits-length hits A.Pass = refl
 
-module _ (s q rows : List ℕ) (recs : List Record) (p₀ : Looked) where
+module _ (s q fl rows : List ℕ) (recs : List Record) (p₀ : Looked) where
   pub record Known (k : ℕ) (p : Looked) : Type 0 where
-    pub runs : searchFor k s q rows recs p ≡ searchOf s q rows recs p₀
+    pub runs : searchFor k s q fl rows recs p ≡ searchOf s q fl rows recs p₀
     pub few : p .state .left ≤ k
     pub good : 0 < p .state .left → SearchGood (p .state)
     pub records : p .state .records ≤ length recs
@@ -96,20 +96,20 @@ module _ (s q rows : List ℕ) (recs : List Record) (p₀ : Looked) where
     pub at-in : p .state .at + p .state .glyph < length recs
     at-in = omega (arith, kn .good going .inside, kn .records)
 
-    module _ (x : Fed) (e : x ≡ feedOf s q rows (p .state) (getD recs (p .state .at + p .state .glyph) blank)) where
+    module _ (x : Fed) (e : x ≡ feedOf s q fl rows (p .state) (getD recs (p .state .at + p .state .glyph) blank)) where
       well : Well (p .state) x
-      well = rw e (feed-well (p .state) (kn .good going) s q rows (getD recs (p .state .at + p .state .glyph) blank))
+      well = rw e (feed-well (p .state) (kn .good going) s q fl rows (getD recs (p .state .at + p .state .glyph) blank))
 
       pub in-row : InRow (p .state) (x .act)
       in-row = well .row
 
-      one-more : searchFor (suc k) s q rows recs p ≡ searchFor k s q rows recs (searchStepOf s q rows recs p)
+      one-more : searchFor (suc k) s q fl rows recs p ≡ searchFor k s q fl rows recs (searchStepOf s q fl rows recs p)
       unfolding searchFor
       one-more = rw (ne-eqb (p .state .left) 0 (λ z. omega arith))
 
       pub next-known : Known k (behind p x)
       next-known = record {
-        runs = ap (λ (z : Fed). searchFor k s q rows recs (record { state = z .state; hits = hitsAfter (p .hits) (z .act) })) e ∙ sym one-more ∙ kn .runs;
+        runs = ap (λ (z : Fed). searchFor k s q fl rows recs (record { state = z .state; hits = hitsAfter (p .hits) (z .act) })) e ∙ sym one-more ∙ kn .runs;
         few = omega (arith, well .less, kn .few);
         good = well .good;
         records = omega (arith, well .records, kn .records);
@@ -117,7 +117,7 @@ module _ (s q rows : List ℕ) (recs : List Record) (p₀ : Looked) where
         same = hits-length (p .hits) (x .act) ∙ kn .same;
       }
 
-  pub run-done : (k : ℕ) (p : Looked) → p .state .left ≤ 0 → searchFor k s q rows recs p ≡ p
+  pub run-done : (k : ℕ) (p : Looked) → p .state .left ≤ 0 → searchFor k s q fl rows recs p ≡ p
   unfolding searchFor
   run-done zero p h = refl
   run-done (suc k) p h = rw (eq-eqb (p .state .left) 0 (omega arith))

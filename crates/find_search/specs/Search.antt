@@ -24,22 +24,22 @@ pub record Looked : Type 0 where
   pub state : Progress
   pub hits : List ℕ
 
-abbrev pub lookedAt : List ℕ → List ℕ → List ℕ → List Record → Looked → Fed
-lookedAt s q rows recs p = feedOf s q rows (p .state) (getD recs (p .state .at + p .state .glyph) blank)
+abbrev pub lookedAt : List ℕ → List ℕ → List ℕ → List ℕ → List Record → Looked → Fed
+lookedAt s q fl rows recs p = feedOf s q fl rows (p .state) (getD recs (p .state .at + p .state .glyph) blank)
 
-abbrev pub searchStepOf : List ℕ → List ℕ → List ℕ → List Record → Looked → Looked
-searchStepOf s q rows recs p = record { state = lookedAt s q rows recs p .state; hits = hitsAfter (p .hits) (lookedAt s q rows recs p .act) }
+abbrev pub searchStepOf : List ℕ → List ℕ → List ℕ → List ℕ → List Record → Looked → Looked
+searchStepOf s q fl rows recs p = record { state = lookedAt s q fl rows recs p .state; hits = hitsAfter (p .hits) (lookedAt s q fl rows recs p .act) }
 
-unfoldable pub searchFor : ℕ → List ℕ → List ℕ → List ℕ → List Record → Looked → Looked
-searchFor zero s q rows recs p = p
-searchFor (suc f) s q rows recs p = let more = searchFor f s q rows recs (searchStepOf s q rows recs p) in if eqb (p .state .left) 0 then p else more
+unfoldable pub searchFor : ℕ → List ℕ → List ℕ → List ℕ → List ℕ → List Record → Looked → Looked
+searchFor zero s q fl rows recs p = p
+searchFor (suc f) s q fl rows recs p = let more = searchFor f s q fl rows recs (searchStepOf s q fl rows recs p) in if eqb (p .state .left) 0 then p else more
 
-abbrev pub searchOf : List ℕ → List ℕ → List ℕ → List Record → Looked → Looked
-searchOf s q rows recs p = searchFor (p .state .left) s q rows recs p
+abbrev pub searchOf : List ℕ → List ℕ → List ℕ → List ℕ → List Record → Looked → Looked
+searchOf s q fl rows recs p = searchFor (p .state .left) s q fl rows recs p
 
 -- a search over rows of n records and h hits
 pub record SearchReady (n h : ℕ) (rows : List ℕ) (st : Progress) : Type 0 where
-  pub size : length rows ≡ 193
+  pub size : length rows ≡ 4609
   pub good : 0 < st .left → SearchGood st
   pub records : st .records ≤ n
   pub hits : st .hmax ≡ h

@@ -27,17 +27,18 @@ pub fn search(
     row: &[Record],
     s: &[u8],
     q: &[u8],
+    fl: &[u8],
     rows: &[u32],
     from: Progress,
 ) -> Progress
     requires { ⌜ SearchReady (length (now row)) (length (now hits)) (now rows) from ⌝ }
-    ensures { λ r. ⌜ record { state = r; hits = now (hits .exit) } ≡ searchOf (now (s .entry)) (now (q .entry)) (now (rows .entry)) (now (row .entry)) (record { state = from; hits = now (hits .entry) }) ⌝ }
+    ensures { λ r. ⌜ record { state = r; hits = now (hits .exit) } ≡ searchOf (now (s .entry)) (now (q .entry)) (now (fl .entry)) (now (rows .entry)) (now (row .entry)) (record { state = from; hits = now (hits .entry) }) ⌝ }
 {
     let mut st = from;
     while 0 < st.left {
         let i = st.at + st.glyph;
         let r = get_record(row, i);
-        let x = find_compare::feed(s, q, rows, st, r);
+        let x = find_compare::feed(s, q, fl, rows, st, r);
         let act = x.act;
         match act {
             FindAct::Hit(k, n) => put_hit(hits, k, n),

@@ -54,7 +54,7 @@ module _ (d : State) where
   pub searched-few : FewRecords d → d .refusal ≡ 0 → d .records ≤ 16777216
   searched-few f h = f h
 
-  pub progress-is : (rows : List ℕ) (hmax n m : ℕ) → n ≡ searched d → m ≡ getD rows 192 0
+  pub progress-is : (rows : List ℕ) (hmax n m : ℕ) → n ≡ searched d → m ≡ getD rows 4544 0
       → record { left = n * 64; at = 0; glyph = 0; hits = 0; hmax = hmax; records = n; glyphs = m; page = 0 } ≡ progressOf d rows hmax
   progress-is rows hmax n m e p =
       ap (λ (k : ℕ). record { left = k; at = 0; glyph = 0; hits = 0; hmax = hmax; records = n; glyphs = m; page = 0 }) (let z : n * 64 ≡ leftAt n 0 0 = omega arith in z)

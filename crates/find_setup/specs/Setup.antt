@@ -18,7 +18,7 @@ use Rattle.find_compare.specs.Compare.{leftAt}
 
 -- ---- the state in which a pass begins
 
--- the query's refusal, where neither the sizes nor the width list are refused
+-- the refusal of the family list or the query, where neither the sizes nor the width list are refused
 abbrev pub queryHeldBack : State → Asked → State
 queryHeldBack a x = if eqb (a .refusal) 0 then (if eqb (x .refusal) 0 then a else refusedAt (x .refusal) (x .offset)) else a
 
@@ -33,7 +33,7 @@ abbrev pub BegunOr : Bool → List ℕ → List ℕ → Asked → State → List
 BegunOr true s list x st ws = (st ≡ refusedAt 1 0) × Scratch ws
 BegunOr false s list x st ws = BegunFrom s list x st ws
 
--- "Order: 1, 2, 12, then the stream"
+-- "Order: 1, 2, 12, then the stream"; 2026-01: 14 is "checked after 2 and before 12"
 abbrev pub Begun : List ℕ → List ℕ → Asked → State → List ℕ → Type 0
 Begun s list x st ws = BegunOr (eqb (x .refusal) 1) s list x st ws
 
@@ -56,7 +56,7 @@ abbrev pub freshOf : ℕ → ℕ → ℕ → Progress
 freshOf n m hmax = record { left = leftAt n 0 0; at = 0; glyph = 0; hits = 0; hmax = hmax; records = n; glyphs = m; page = 0 }
 
 abbrev pub progressOf : State → List ℕ → ℕ → Progress
-progressOf d rows hmax = freshOf (searched d) (getD rows 192 0) hmax
+progressOf d rows hmax = freshOf (searched d) (getD rows 4544 0) hmax
 
 abbrev pub findAnswerOf : State → Progress → Finding
 findAnswerOf d e = if eqb (d .refusal) 0 then F.Accepted (d .records) (e .hits) else F.Refused (d .refusal) (d .at)

@@ -12,7 +12,7 @@ ghost use Rattle.find_setup.specs.Setup.{queryHeldBack, Begun, findNextO
 
 // ---- the state in which a pass begins
 
-// The query's refusal, where neither the sizes nor the width list are refused.
+// The refusal of the family list or the query, where neither the sizes nor the width list are refused.
 fn held_back(a: State, x: Asked) -> State
     ensures { λ r. ⌜ r ≡ queryHeldBack a x ⌝ }
 {
@@ -25,7 +25,7 @@ fn held_back(a: State, x: Asked) -> State
     a
 }
 
-// The judging pass; or refusal 1, 2 or 12.
+// The judging pass; or refusal 1, 2, 14 or 12.
 pub fn start(ws: &mut [u32], s: &[u8], list: &[u8], x: Asked) -> State
     requires { ⌜ Scratch (now ws) ⌝ }
     ensures { λ r. ⌜ Begun (now (s .entry)) (now (list .entry)) x r (now (ws .exit)) ⌝ }
@@ -61,11 +61,11 @@ fn searched(d: State) -> usize
 
 // Where the search begins, the last pass having ended at d.
 pub fn progress(d: State, rows: &[u32], hmax: usize) -> Progress
-    requires { ⌜ (length (now rows) ≡ 193) × FewRecords d ⌝ }
+    requires { ⌜ (length (now rows) ≡ 4609) × FewRecords d ⌝ }
     ensures { λ r. ⌜ r ≡ progressOf d (now (rows .entry)) hmax ⌝ }
 {
     let records = searched(d);
-    let glyphs = find_match::wide(rows[192]);
+    let glyphs = find_match::wide(rows[4_544]);
     let left = records * 64;
     Progress {
         left,

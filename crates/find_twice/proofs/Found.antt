@@ -15,13 +15,14 @@ use Rattle.rules.specs.declared.Entry.{Entry}
 use Rattle.rules.specs.Bytes.{if_then_else_}
 use Rattle.rules.specs.Scan.{commands}
 use Rattle.rules.specs.State.{Env, start}
-use Rattle.rules.specs.Widths.{WidthList, unsound, sound, widthList}
+use Rattle.rules.specs.Widths.{Widths, WidthList, unsound, sound, widthList}
 use Rattle.rules.specs.Record.{GlyphRow, ItemRow, Answer, refuse, answer, follow, recordOf, over}
-use Rattle.rules.specs.Find.{Wanted, Query, illFormed, wellFormed, query, Key, hitsFrom}
-use Rattle.rules.specs.Answers.{streamMost, isOver, read, Found, notFound, found, hitsIn, findAsked, findWith, find, findInto, findingOf, recordsFound, hitsOver, keyOf as keyOfRow}
+use Rattle.rules.specs.Families.{Family, FamilyList, illGrouped, grouped, familyList}
+use Rattle.rules.specs.Find.{Wanted, Sought, sought, Query, illFormed, wellFormed, query, Key, hitsFrom}
+use Rattle.rules.specs.Answers.{streamMost, isOver, read, Found, notFound, found, hitsIn, findAsked, findGrouped, findWith, find, findInto, findingOf, recordsFound, hitsOver, keyOf as keyOfRow}
 use Rattle.laws.proofs.Cases.{on, no as impossible, if-both, or-true, take-front}
 use Rattle.laws_scan.proofs.Names.{RowIn, AllRows, RowsOf, names-stand}
-use Rattle.laws_find.specs.Occurs.{noWanted}
+use Rattle.laws_find.proofs.Exact.{noSought, sought-at, sought-length}
 use Rattle.laws_answers.proofs.Theorems.{keysIn, keys-by-outline}
 use Rattle.read_model.specs.declared.State.{State}
 use Rattle.read_model.specs.Passes.{ReadPass, readPassOf}
@@ -32,7 +33,7 @@ use Rattle.read_pass.specs.Ready.{PassReady}
 use Rattle.read_pass.proofs.Known.{Known, pass-known}
 use Rattle.read_setup.specs.Setup.{Unmounted, beginOf, refusedAt, StartedWith, StartedOr, Started, AreBytes}
 use Rattle.read_twice.proofs.Twice.{passFrom, refused-sound, not-over, first-sound, On, halted-pass, filling-sound, begun, on-ends, kept-records, judged-count, judged-number, refill, refilled}
-use Rattle.find_match.specs.Match.{keyIn, recordKey, RowOf, wantedFrom}
+use Rattle.find_match.specs.Match.{keyIn, recordKey, RowOf, soughtFrom}
 use Rattle.find_outline.specs.Move.{standing}
 use Rattle.find_keys.specs.Keys.{keysAt}
 use Rattle.find_keys.proofs.Outlines.{all-keys}
@@ -42,7 +43,7 @@ use Rattle.find_compare.specs.Compare.{leftAt}
 use Rattle.find_search.specs.Search.{Looked, searchFor, searchOf, SearchReady}
 use Rattle.find_exact.proofs.Exact.{search-exact}
 use Rattle.find_ask.specs.declared.Asked.{Asked}
-use Rattle.find_ask.specs.Ask.{RowHolds, askedAt, AsksWith, AsksOr, AsksFor}
+use Rattle.find_ask.specs.Ask.{RowHolds, askedAt, AsksWith, AsksIn, AsksOr, AsksFor}
 use Rattle.find_room.specs.Room.{hitsCounted, CountReady, tooMany}
 use Rattle.find_setup.specs.Setup.{queryHeldBack, BegunFrom, BegunOr, Begun, findNextOf, FewRecords, freshOf, progressOf, findAnswerOf}
 use Rattle.find_twice.proofs.Within.{pass-held}
@@ -53,52 +54,53 @@ or-assoc : (a b c : Bool) → (a || (b || c)) ≡ ((a || b) || c)
 or-assoc true b c = refl
 or-assoc false b c = refl
 
-find-is : (s list q : List ℕ) → find s list q ≡ (if (isOver streamMost s || isOver 65_536 list) || isOver 8_192 q then notFound 1 0 else findWith s q (widthList list))
+find-is : (s list fl q : List ℕ) → find s list fl q ≡ (if (isOver streamMost s || isOver 65_536 list) || (isOver 65_536 fl || isOver 8_192 q) then notFound 1 0 else findWith s fl q (widthList list))
 unfolding find
-find-is s list q = rw (or-assoc (isOver streamMost s) (isOver 65_536 list) (isOver 8_192 q))
+find-is s list fl q = rw (or-assoc (isOver streamMost s) (isOver 65_536 list) (isOver 65_536 fl || isOver 8_192 q))
 
 -- refused before: it does not go on
-pub record Off (s list q : List ℕ) (a : State) (ws : List ℕ) : Type 0 where
+pub record Off (s list fl q : List ℕ) (a : State) (ws : List ℕ) : Type 0 where
   pub number : ℕ
   pub offset : ℕ
   pub state : a ≡ refusedAt number offset
   pub some : 0 < number
   pub scratch : Scratch ws
-  pub answered : find s list q ≡ notFound number offset
+  pub answered : find s list fl q ≡ notFound number offset
 
 -- the sizes and the width list are in order
-pub record Listed (s list q : List ℕ) (a : State) (ws : List ℕ) : Type 0 where
+pub record Listed (s list fl q : List ℕ) (a : State) (ws : List ℕ) : Type 0 where
   pub reads : On s list a ws
-  pub answered : find s list q ≡ findAsked s (reads .widths) (query q)
+  pub answered : find s list fl q ≡ findGrouped s (reads .widths) q (familyList fl)
 
--- and the query is
-pub record Asks (s list q rows : List ℕ) (a : State) (ws : List ℕ) : Type 0 where
+-- and the family list and the query are
+pub record Asks (s list fl q rows : List ℕ) (a : State) (ws : List ℕ) : Type 0 where
+  pub families : List Family
   pub wanted : List Wanted
-  pub holds : RowHolds q wanted rows
+  pub holds : RowHolds families q wanted fl rows
   pub started : Started s list a ws
   pub reads : On s list a ws
   pub bytes : AreBytes s
-  pub answered : find s list q ≡ hitsIn wanted (follow (reads .widths) start (commands 0 0 s))
+  pub answered : find s list fl q ≡ hitsIn (map (sought families) wanted) (follow (reads .widths) start (commands 0 0 s))
 
-module _ (s list q : List ℕ) (short : isOver 8_192 q ≡ false) (a : State) (ws : List ℕ) where
-  with-case : (isOver streamMost s || isOver 65_536 list) ≡ false → (x : WidthList) → widthList list ≡ x → StartedWith (length s) list a ws x → Off s list q a ws ⊎ Listed s list q a ws
+module _ (s list fl q : List ℕ) (short : (isOver 65_536 fl || isOver 8_192 q) ≡ false) (a : State) (ws : List ℕ) where
+  with-case : (isOver streamMost s || isOver 65_536 list) ≡ false → (x : WidthList) → widthList list ≡ x → StartedWith (length s) list a ws x → Off s list fl q a ws ⊎ Listed s list fl q a ws
   unfolding read
-  with-case z (unsound at) e h = inl (record { number = 2; offset = at; state = h .0; some = omega arith; scratch = h .1; answered = find-is s list q ∙ rw (z, short, e) })
+  with-case z (unsound at) e h = inl (record { number = 2; offset = at; state = h .0; some = omega arith; scratch = h .1; answered = find-is s list fl q ∙ rw (z, short, e) })
   with-case z (sound w) e h = inr (record {
     reads = record { widths = w; list-is = e; state = h .0; scratch = h .1; short = not-over s list z; answered = rw (z, e) };
-    answered = find-is s list q ∙ rw (z, short, e);
+    answered = find-is s list fl q ∙ rw (z, short, e);
   })
 
-  started-case : (b : Bool) → (isOver streamMost s || isOver 65_536 list) ≡ b → StartedOr b s list a ws → Off s list q a ws ⊎ Listed s list q a ws
-  started-case true z h = inl (record { number = 1; offset = 0; state = h .0; some = omega arith; scratch = h .1; answered = find-is s list q ∙ rw z })
+  started-case : (b : Bool) → (isOver streamMost s || isOver 65_536 list) ≡ b → StartedOr b s list a ws → Off s list fl q a ws ⊎ Listed s list fl q a ws
+  started-case true z h = inl (record { number = 1; offset = 0; state = h .0; some = omega arith; scratch = h .1; answered = find-is s list fl q ∙ rw z })
   started-case false z h = with-case z (widthList list) refl h
 
-module _ (s list q : List ℕ) (x : Asked) (rows : List ℕ) (a : State) (ws : List ℕ) where
+module _ (s list fl q : List ℕ) (x : Asked) (rows : List ℕ) (a : State) (ws : List ℕ) where
   abbrev Case : Type 0
-  Case = Off s list q a ws ⊎ Asks s list q rows a ws
+  Case = Off s list fl q a ws ⊎ Asks s list fl q rows a ws
 
   -- refused already: the query's refusal does not matter
-  off-held : (first : State) → a ≡ queryHeldBack first x → Off s list q first ws → Off s list q a ws
+  off-held : (first : State) → a ≡ queryHeldBack first x → Off s list fl q first ws → Off s list fl q a ws
   off-held first e o = record {
     number = o .number;
     offset = o .offset;
@@ -108,61 +110,93 @@ module _ (s list q : List ℕ) (x : Asked) (rows : List ℕ) (a : State) (ws : L
     answered = o .answered;
   }
 
-  ill-case : (at : ℕ) → query q ≡ illFormed at → x ≡ askedAt 12 at → (b : BegunFrom s list x a ws) → Off s list q (b .first) ws ⊎ Listed s list q (b .first) ws → Case
-  ill-case at e k b (inl o) = inl (off-held (b .first) (b .state) o)
-  ill-case at e k b (inr l) = inl (record { number = 12; offset = at; state = b .state ∙ rw (l .reads .state, k); some = omega arith; scratch = l .reads .scratch .scratch; answered = l .answered ∙ rw e })
+  -- refused as 14 or 12
+  ill-case : (number at : ℕ) → 0 < number → ((w : Widths) → findGrouped s w q (familyList fl) ≡ notFound number at) → x ≡ askedAt number at → (b : BegunFrom s list x a ws)
+      → Off s list fl q (b .first) ws ⊎ Listed s list fl q (b .first) ws → Case
+  ill-case number at z e k b (inl o) = inl (off-held (b .first) (b .state) o)
+  ill-case number at z e k b (inr l) = inl (record {
+    number = number;
+    offset = at;
+    state = b .state ∙ rw (l .reads .state, k, ne-eqb number 0 (λ y. omega arith));
+    some = z;
+    scratch = l .reads .scratch .scratch;
+    answered = l .answered ∙ e (l .reads .widths);
+  })
 
-  asks-of : (qs : List Wanted) → query q ≡ wellFormed qs → RowHolds q qs rows → AreBytes s → Started s list a ws → Listed s list q a ws → Asks s list q rows a ws
-  asks-of qs e r y h l = record { wanted = qs; holds = r; started = h; reads = l .reads; bytes = y; answered = l .answered ∙ rw e }
+  asks-of : (fs : List Family) (qs : List Wanted) → familyList fl ≡ grouped fs → query q ≡ wellFormed qs → RowHolds fs q qs fl rows → AreBytes s → Started s list a ws → Listed s list fl q a ws → Asks s list fl q rows a ws
+  asks-of fs qs d e r y h l = record { families = fs; wanted = qs; holds = r; started = h; reads = l .reads; bytes = y; answered = l .answered ∙ rw (d, e) }
 
-  well-case : (qs : List Wanted) → query q ≡ wellFormed qs → x ≡ askedAt 0 0 → RowHolds q qs rows → (b : BegunFrom s list x a ws) → Off s list q (b .first) ws ⊎ Listed s list q (b .first) ws → Case
-  well-case qs e k r b (inl o) = inl (off-held (b .first) (b .state) o)
-  well-case qs e k r b (inr l) =
+  well-case : (fs : List Family) (qs : List Wanted) → familyList fl ≡ grouped fs → query q ≡ wellFormed qs → x ≡ askedAt 0 0 → RowHolds fs q qs fl rows → (b : BegunFrom s list x a ws)
+      → Off s list fl q (b .first) ws ⊎ Listed s list fl q (b .first) ws → Case
+  well-case fs qs d e k r b (inl o) = inl (off-held (b .first) (b .state) o)
+  well-case fs qs d e k r b (inr l) =
       let same : b .first ≡ a = sym (b .state ∙ rw (l .reads .state, k)) in
-      inr (asks-of qs e r (b .bytes) (subst (λ (i : State). Started s list i ws) same (b .started)) (subst (λ (i : State). Listed s list q i ws) same l))
+      inr (asks-of fs qs d e r (b .bytes) (subst (λ (i : State). Started s list i ws) same (b .started)) (subst (λ (i : State). Listed s list fl q i ws) same l))
 
-  from-case : isOver 8_192 q ≡ false → (y : Query) → query q ≡ y → AsksWith q x rows y → Begun s list x a ws → Case
-  from-case z (illFormed at) e k h =
-      let b : BegunFrom s list x a ws = subst (λ (i : Asked). BegunOr (eqb (i .refusal) 1) s list x a ws) (k .0) h in
-      ill-case at e (k .0) b (started-case s list q z (b .first) ws (isOver streamMost s || isOver 65_536 list) refl (b .started))
-  from-case z (wellFormed qs) e k h =
-      let b : BegunFrom s list x a ws = subst (λ (i : Asked). BegunOr (eqb (i .refusal) 1) s list x a ws) (k .0) h in
-      well-case qs e (k .0) (k .1) b (started-case s list q z (b .first) ws (isOver streamMost s || isOver 65_536 list) refl (b .started))
+  module _ (z : (isOver 65_536 fl || isOver 8_192 q) ≡ false) where
+    begun-from : (number at : ℕ) → eqb number 1 ≡ false → x ≡ askedAt number at → Begun s list x a ws → BegunFrom s list x a ws
+    begun-from number at e k h = rw e at (subst (λ (i : Asked). BegunOr (eqb (i .refusal) 1) s list x a ws) k h)
 
-  or-case : (b : Bool) → isOver 8_192 q ≡ b → AsksOr b q x rows → Begun s list x a ws → Case
+    first-case : (b : BegunFrom s list x a ws) → Off s list fl q (b .first) ws ⊎ Listed s list fl q (b .first) ws
+    first-case b = started-case s list fl q z (b .first) ws (isOver streamMost s || isOver 65_536 list) refl (b .started)
+
+    from-case : (fs : List Family) → familyList fl ≡ grouped fs → (y : Query) → query q ≡ y → AsksWith fs q fl x rows y → Begun s list x a ws → Case
+    from-case fs d (illFormed at) e k h = let b = begun-from 12 at refl (k .0) h in ill-case 12 at (omega arith) (λ w. rw (d, e)) (k .0) b (first-case b)
+    from-case fs d (wellFormed qs) e k h = let b = begun-from 0 0 refl (k .0) h in well-case fs qs d e (k .0) (k .1) b (first-case b)
+
+    in-case : (y : FamilyList) → familyList fl ≡ y → AsksIn q fl x rows y → Begun s list x a ws → Case
+    in-case (illGrouped at) e k h = let b = begun-from 14 at refl (k .0) h in ill-case 14 at (omega arith) (λ w. rw e) (k .0) b (first-case b)
+    in-case (grouped fs) e k h = from-case fs e (query q) refl k h
+
+  or-case : (b : Bool) → (isOver 65_536 fl || isOver 8_192 q) ≡ b → AsksOr b fl q x rows → Begun s list x a ws → Case
   or-case true z k h =
       let g : (a ≡ refusedAt 1 0) × Scratch ws = subst (λ (i : Asked). BegunOr (eqb (i .refusal) 1) s list x a ws) (k .0) h in
-      inl (record { number = 1; offset = 0; state = g .0; some = omega arith; scratch = g .1; answered = find-is s list q ∙ rw (or-true (isOver streamMost s || isOver 65_536 list) (isOver 8_192 q) z) })
-  or-case false z k h = from-case z (query q) refl k h
+      inl (record {
+        number = 1;
+        offset = 0;
+        state = g .0;
+        some = omega arith;
+        scratch = g .1;
+        answered = find-is s list fl q ∙ rw (or-true (isOver streamMost s || isOver 65_536 list) (isOver 65_536 fl || isOver 8_192 q) z);
+      })
+  or-case false z k h = in-case z (familyList fl) refl k h
 
-  begun-case : AsksFor q x rows → Begun s list x a ws → Case
-  begun-case k h = or-case (isOver 8_192 q) refl k h
+  begun-case : AsksFor fl q x rows → Begun s list x a ws → Case
+  begun-case k h = or-case (isOver 65_536 fl || isOver 8_192 q) refl k h
 
 -- the row has its length in every case
-with-size : (q : List ℕ) (x : Asked) (rows : List ℕ) (y : Query) → AsksWith q x rows y → length rows ≡ 193
-with-size q x rows (illFormed at) k = k .1
-with-size q x rows (wellFormed qs) k = k .1 .row .size
+module _ (fl q : List ℕ) (x : Asked) (rows : List ℕ) where
+  with-size : (fs : List Family) (y : Query) → AsksWith fs q fl x rows y → length rows ≡ 4609
+  with-size fs (illFormed at) k = k .1
+  with-size fs (wellFormed qs) k = k .1 .row .size
 
-or-size : (q : List ℕ) (x : Asked) (rows : List ℕ) (b : Bool) → AsksOr b q x rows → length rows ≡ 193
-or-size q x rows true k = k .1
-or-size q x rows false k = with-size q x rows (query q) k
+  in-size : (y : FamilyList) → AsksIn q fl x rows y → length rows ≡ 4609
+  in-size (illGrouped at) k = k .1
+  in-size (grouped fs) k = with-size fs (query q) k
 
-pub row-size : (q : List ℕ) (x : Asked) (rows : List ℕ) → AsksFor q x rows → length rows ≡ 193
-row-size q x rows k = or-size q x rows (isOver 8_192 q) k
+  or-size : (b : Bool) → AsksOr b fl q x rows → length rows ≡ 4609
+  or-size true k = k .1
+  or-size false k = in-size (familyList fl) k
+
+  pub row-size : AsksFor fl q x rows → length rows ≡ 4609
+  row-size k = or-size (isOver 65_536 fl || isOver 8_192 q) k
 
 -- ---- the glyphs of the query, the names of the records, and the hits
 
-module _ (q : List ℕ) (qs : List Wanted) (rows : List ℕ) (r : RowOf q qs rows) where
-  wanted-from : (k j : ℕ) → j + k ≡ length qs → wantedFrom k q rows j ≡ drop j qs
-  unfolding wantedFrom
-  wanted-from zero j e = let l : length qs ≤ j = omega arith in sym (drop-of-length-le qs l)
-  wanted-from (suc k) j e =
-      let h : j < length qs = omega arith in
-      ap₂ (λ (w : Wanted) (l : List Wanted). w ∷ l) (r .each j h) (wanted-from k (j + 1) (omega arith) ∙ ap (λ (i : ℕ). drop i qs) (add-one j))
-      ∙ sym (drop-cons qs j noWanted h)
+module _ (fs : List Family) (q : List ℕ) (qs : List Wanted) (fl rows : List ℕ) (r : RowOf fs q qs fl rows) where
+  abbrev all : List Sought
+  all = map (sought fs) qs
 
-  pub wanted-all : wantedFrom (length qs) q rows 0 ≡ qs
-  wanted-all = wanted-from (length qs) 0 (omega arith)
+  sought-from : (k j : ℕ) → j + k ≡ length qs → soughtFrom k q fl rows j ≡ drop j all
+  unfolding soughtFrom
+  sought-from zero j e = let l : length all ≤ j = omega (arith, sought-length fs qs) in sym (drop-of-length-le all l)
+  sought-from (suc k) j e =
+      let h : j < length qs = omega arith in
+      ap₂ (λ (w : Sought) (l : List Sought). w ∷ l) (r .each j h ∙ sym (sought-at fs qs j h)) (sought-from k (j + 1) (omega arith) ∙ ap (λ (i : ℕ). drop i all) (add-one j))
+      ∙ sym (drop-cons all j noSought (omega (arith, sought-length fs qs)))
+
+  pub sought-all : soughtFrom (length qs) q fl rows 0 ≡ map (sought fs) qs
+  sought-all = sought-from (length qs) 0 (omega arith)
 
 -- a record's name stands at its place
 pub seen-is : (s : List ℕ) (r : GlyphRow) → RowIn s r → keyIn s (recordKey (recordOf r)) ≡ keyOfRow r
@@ -186,18 +220,19 @@ length-over (x ∷ new) (y ∷ old) h = ap suc (length-over new old (omega arith
 -- ---- how the second pass ends
 
 -- refused: both rows are as they were
-pub record Halt (s list q : List ℕ) (rs : List Record) (hs : List ℕ) (p₂ : ReadPass) : Type 0 where
+pub record Halt (s list fl q : List ℕ) (rs : List Record) (hs : List ℕ) (p₂ : ReadPass) : Type 0 where
   pub number : ℕ
   pub offset : ℕ
   pub state : p₂ .state ≡ refusedAt number offset
   pub some : 0 < number
   pub records : p₂ .records ≡ rs
-  pub answered : findInto (length rs) (length hs) s list q ≡ notFound number offset
+  pub answered : findInto (length rs) (length hs) s list fl q ≡ notFound number offset
 
 -- the records are in their row, and there is room for the hits
-pub record Done (s list q rows : List ℕ) (rs : List Record) (hs : List ℕ) (p₂ : ReadPass) : Type 0 where
+pub record Done (s list fl q rows : List ℕ) (rs : List Record) (hs : List ℕ) (p₂ : ReadPass) : Type 0 where
+  pub families : List Family
   pub wanted : List Wanted
-  pub holds : RowHolds q wanted rows
+  pub holds : RowHolds families q wanted fl rows
   pub glyphs : List GlyphRow
   pub clear : p₂ .state .refusal ≡ 0
   pub count : p₂ .state .records ≡ length glyphs
@@ -205,17 +240,17 @@ pub record Done (s list q rows : List ℕ) (rs : List Record) (hs : List ℕ) (p
   pub fit : length glyphs ≤ length rs
   pub few : length glyphs ≤ 16777216
   pub stand : AllRows s glyphs
-  pub room : length (hitsFrom wanted 0 (map keyOfRow glyphs)) ≤ length hs
-  pub answered : findInto (length rs) (length hs) s list q ≡ found glyphs (hitsFrom wanted 0 (map keyOfRow glyphs))
+  pub room : length (hitsFrom (map (sought families) wanted) 0 (map keyOfRow glyphs)) ≤ length hs
+  pub answered : findInto (length rs) (length hs) s list fl q ≡ found glyphs (hitsFrom (map (sought families) wanted) 0 (map keyOfRow glyphs))
 
-module _ (s list q : List ℕ) (rs : List Record) (es : List Entry) (hs : List ℕ) (x : Asked) (rows : List ℕ) (asks : AsksFor q x rows) (a : State) (ws₁ : List ℕ) (h : Begun s list x a ws₁) where
-  case-sound : (g e : ℕ) → Off s list q a ws₁ ⊎ Asks s list q rows a ws₁ → PassReady (length s) ws₁ g e a
+module _ (s list fl q : List ℕ) (rs : List Record) (es : List Entry) (hs : List ℕ) (x : Asked) (rows : List ℕ) (asks : AsksFor fl q x rows) (a : State) (ws₁ : List ℕ) (h : Begun s list x a ws₁) where
+  case-sound : (g e : ℕ) → Off s list fl q a ws₁ ⊎ Asks s list fl q rows a ws₁ → PassReady (length s) ws₁ g e a
   case-sound g e (inl o) = subst (PassReady (length s) ws₁ g e) (sym (o .state)) (refused-sound (length s) ws₁ g e (o .number) (o .offset) (o .scratch))
   case-sound g e (inr o) = first-sound s list a ws₁ g e (o .started)
 
   -- what the judging pass asks
   pub start-sound : (g e : ℕ) → PassReady (length s) ws₁ g e a
-  start-sound g e = case-sound g e (begun-case s list q x rows a ws₁ asks h)
+  start-sound g e = case-sound g e (begun-case s list fl q x rows a ws₁ asks h)
 
   module _ (p : ReadPass) (is : p ≡ readPassOf (findIn list (a .fonts) ws₁) s (passFrom a ws₁ rs es)) where
     known : Known list s (passFrom a ws₁ rs es) 0 p
@@ -225,26 +260,26 @@ module _ (s list q : List ℕ) (rs : List Record) (es : List Entry) (hs : List �
     pub left-scratch : Scratch (p .scratch)
     left-scratch = known .scratch
 
-    case-count : Off s list q a ws₁ ⊎ Asks s list q rows a ws₁ → CountReady s rows (p .state)
+    case-count : Off s list fl q a ws₁ ⊎ Asks s list fl q rows a ws₁ → CountReady s rows (p .state)
     case-count (inl o) =
         let e : p .state .refusal ≡ o .number = ap (λ (i : ReadPass). i .state .refusal) (is ∙ halted-pass (findIn list (a .fonts) ws₁) s (passFrom a ws₁ rs es) (rw (o .state))) ∙ rw (o .state) in
-        record { size = row-size q x rows asks; short = λ z. absurd (omega (arith, e, o .some)); few = λ z. absurd (omega (arith, e, o .some)) }
-    case-count (inr o) = record { size = row-size q x rows asks; short = λ z. o .reads .short; few = λ z. omega (arith, o .holds .count, o .holds .few) }
+        record { size = row-size fl q x rows asks; short = λ z. absurd (omega (arith, e, o .some)); few = λ z. absurd (omega (arith, e, o .some)) }
+    case-count (inr o) = record { size = row-size fl q x rows asks; short = λ z. o .reads .short; few = λ z. omega (arith, o .holds .count, o .holds .few) }
 
     -- what the counting asks
     pub count-sound : CountReady s rows (p .state)
-    count-sound = case-count (begun-case s list q x rows a ws₁ asks h)
+    count-sound = case-count (begun-case s list fl q x rows a ws₁ asks h)
 
-    module _ (too : Bool) (counts : too ≡ tooMany rows s q (p .state) (length hs)) (c : State) (next : c ≡ findNextOf (p .state) (length s) (length rs) too) (ws₂ : List ℕ) (u : Unmounted (p .scratch) ws₂) where
+    module _ (too : Bool) (counts : too ≡ tooMany rows s q fl (p .state) (length hs)) (c : State) (next : c ≡ findNextOf (p .state) (length s) (length rs) too) (ws₂ : List ℕ) (u : Unmounted (p .scratch) ws₂) where
       abbrev told : Found
-      told = findInto (length rs) (length hs) s list q
+      told = findInto (length rs) (length hs) s list fl q
 
-      told-refused : (k o : ℕ) → find s list q ≡ notFound k o → told ≡ notFound k o
+      told-refused : (k o : ℕ) → find s list fl q ≡ notFound k o → told ≡ notFound k o
       unfolding findInto
       told-refused k o e = rw e
 
       -- refused before: it leaves all as it was
-      module _ (o : Off s list q a ws₁) where
+      module _ (o : Off s list fl q a ws₁) where
         off-pass : p ≡ passFrom a ws₁ rs es
         off-pass = is ∙ halted-pass (findIn list (a .fonts) ws₁) s (passFrom a ws₁ rs es) (rw (o .state))
 
@@ -260,7 +295,7 @@ module _ (s list q : List ℕ) (rs : List Record) (es : List Entry) (hs : List �
       abbrev P : State → Type 0
       P = PassReady (length s) ws₂ (length (p .records)) (length (p .entries))
 
-      case-next : Off s list q a ws₁ ⊎ Asks s list q rows a ws₁ → P c
+      case-next : Off s list fl q a ws₁ ⊎ Asks s list fl q rows a ws₁ → P c
       case-next (inl o) = subst P (sym (off-next o)) (refused-sound (length s) ws₂ (length (p .records)) (length (p .entries)) (o .number) (o .offset) (u .scratch))
       case-next (inr o) =
           subst P (sym next)
@@ -269,21 +304,21 @@ module _ (s list q : List ℕ) (rs : List Record) (es : List Entry) (hs : List �
 
       -- what the filling pass asks
       pub next-sound : P c
-      next-sound = case-next (begun-case s list q x rows a ws₁ asks h)
+      next-sound = case-next (begun-case s list fl q x rows a ws₁ asks h)
 
       module _ (p₂ : ReadPass) (ends : p₂ ≡ readPassOf (findIn list (c .fonts) ws₂) s (passFrom c ws₂ (p .records) (p .entries))) where
         abbrev Outcome : Type 0
-        Outcome = Halt s list q rs hs p₂ ⊎ Done s list q rows rs hs p₂
+        Outcome = Halt s list fl q rs hs p₂ ⊎ Done s list fl q rows rs hs p₂
 
-        halts : (k o : ℕ) → c ≡ refusedAt k o → 0 < k → p .records ≡ rs → told ≡ notFound k o → Halt s list q rs hs p₂
+        halts : (k o : ℕ) → c ≡ refusedAt k o → 0 < k → p .records ≡ rs → told ≡ notFound k o → Halt s list fl q rs hs p₂
         halts k o e z r y =
             let b : p₂ ≡ passFrom c ws₂ (p .records) (p .entries) = ends ∙ halted-pass (findIn list (c .fonts) ws₂) s (passFrom c ws₂ (p .records) (p .entries)) (ap (λ (i : State). i .left) e) in
             record { number = k; offset = o; state = ap (λ (i : ReadPass). i .state) b ∙ e; some = z; records = ap (λ (i : ReadPass). i .records) b ∙ r; answered = y }
 
-        off-halts : Off s list q a ws₁ → Halt s list q rs hs p₂
+        off-halts : Off s list fl q a ws₁ → Halt s list fl q rs hs p₂
         off-halts o = halts (o .number) (o .offset) (off-next o) (o .some) (ap (λ (i : ReadPass). i .records) (off-pass o)) (told-refused (o .number) (o .offset) (o .answered))
 
-        module _ (o : Asks s list q rows a ws₁) where
+        module _ (o : Asks s list fl q rows a ws₁) where
           abbrev said : Answer
           said = follow (o .reads .widths) start (commands 0 0 s)
 
@@ -303,7 +338,7 @@ module _ (s list q : List ℕ) (rs : List Record) (es : List Entry) (hs : List �
           -- it accepted
           module _ (xs : List GlyphRow) (zs : List ItemRow) (d : Env) (said-is : said ≡ answer xs zs d) (g : Accepted xs zs d (passFrom (begun s list rs es a ws₁ (o .started) p is (o .bytes) (o .reads)) ws₁ rs es) p) where
             abbrev hits : List ℕ
-            hits = hitsFrom (o .wanted) 0 (map keyOfRow xs)
+            hits = hitsFrom (map (sought (o .families)) (o .wanted)) 0 (map keyOfRow xs)
 
             count-is : p .state .records ≡ length xs
             count-is = judged-count s list rs es a ws₁ (o .started) p is (o .bytes) (o .reads) xs zs d said-is g
@@ -325,8 +360,8 @@ module _ (s list q : List ℕ) (rs : List Record) (es : List Entry) (hs : List �
             keys-are : map (keyIn s) (keysAt s (standing 0 0 0)) ≡ map keyOfRow xs
             keys-are = all-keys s (o .reads .short) ∙ sym (keys-by-outline s list (rw read-is)) ∙ ap keysIn read-is
 
-            counted-is : hitsCounted rows s q ≡ length hits
-            counted-is = rw (o .holds .count, keys-are, wanted-all q (o .wanted) rows (o .holds .row))
+            counted-is : hitsCounted rows s q fl ≡ length hits
+            counted-is = rw (o .holds .count, keys-are, sought-all (o .families) q (o .wanted) fl rows (o .holds .row))
 
             too-is : too ≡ ltb (length hs) (length hits)
             too-is =
@@ -334,7 +369,7 @@ module _ (s list q : List ℕ) (rs : List Record) (es : List Entry) (hs : List �
                 (λ z. counts ∙ rw (g .clear, g .stopped, count-is, z, counted-is))
                 (λ z.
                 let l : length xs ≤ length hs = ltb-false (length hs) (length xs) z in
-                let f : length hits ≤ length (map keyOfRow xs) = hits-few (o .wanted) 0 (map keyOfRow xs) in
+                let f : length hits ≤ length (map keyOfRow xs) = hits-few (map (sought (o .families)) (o .wanted)) 0 (map keyOfRow xs) in
                 counts ∙ rw (g .clear, g .stopped, count-is, z) (sym (le-ltb (length hs) (length hits) (omega (arith, length-map keyOfRow xs)))))
 
             told-is : told ≡ (if ltb (length rs) (length xs) || ltb (length hs) (length hits) then notFound 13 0 else found xs hits)
@@ -357,8 +392,9 @@ module _ (s list q : List ℕ) (rs : List Record) (es : List Entry) (hs : List �
               filling : Accepted xs zs d (passFrom again ws₂ (p .records) (p .entries)) p₂
               filling = refilled s list rs es a ws₁ (o .started) p is (o .bytes) (o .reads) xs zs d said-is g (p .state .entries) 2 ws₂ u c fills records-fit (omega (arith, number-is)) p₂ ends
 
-              done : Done s list q rows rs hs p₂
+              done : Done s list fl q rows rs hs p₂
               done = record {
+                families = o .families;
                 wanted = o .wanted;
                 holds = o .holds;
                 glyphs = xs;
@@ -384,15 +420,15 @@ module _ (s list q : List ℕ) (rs : List Record) (es : List Entry) (hs : List �
           on-outcome (refuse k j) e g = inl (halts k j (pass-refused k j g .0) (pass-refused k j g .1) kept (told-refused k j (o .answered ∙ rw e)))
           on-outcome (answer xs zs d) e g = accepted xs zs d e g
 
-        case-outcome : Off s list q a ws₁ ⊎ Asks s list q rows a ws₁ → Outcome
+        case-outcome : Off s list fl q a ws₁ ⊎ Asks s list fl q rows a ws₁ → Outcome
         case-outcome (inl o) = inl (off-halts o)
         case-outcome (inr o) = on-outcome o (said o) refl (on-ends s list rs es a ws₁ (o .started) p is (o .bytes) (o .reads))
 
         outcome : Outcome
-        outcome = case-outcome (begun-case s list q x rows a ws₁ asks h)
+        outcome = case-outcome (begun-case s list fl q x rows a ws₁ asks h)
 
         -- the row has a place for each record
-        enough : (o : Done s list q rows rs hs p₂) → length (o .glyphs) ≤ length (p₂ .records)
+        enough : (o : Done s list fl q rows rs hs p₂) → length (o .glyphs) ≤ length (p₂ .records)
         enough o = rw (o .records) (omega (arith, length-over (map recordOf (o .glyphs)) rs (omega (arith, o .fit, length-map recordOf (o .glyphs))), o .fit))
 
         case-few : Outcome → FewRecords (p₂ .state)
@@ -405,21 +441,21 @@ module _ (s list q : List ℕ) (rs : List Record) (es : List Entry) (hs : List �
 
         module _ (g : Progress) (from : g ≡ progressOf (p₂ .state) rows (length hs)) where
           -- nothing is searched in a refusal
-          halt-from : (o : Halt s list q rs hs p₂) → g ≡ freshOf 0 (getD rows 192 0) (length hs)
+          halt-from : (o : Halt s list fl q rs hs p₂) → g ≡ freshOf 0 (getD rows 4544 0) (length hs)
           halt-from o = from ∙ rw (o .state, ne-eqb (o .number) 0 (λ z. let y : 0 < o .number = o .some in omega arith))
 
-          done-from : (o : Done s list q rows rs hs p₂) → g ≡ freshOf (length (o .glyphs)) (length (o .wanted)) (length hs)
+          done-from : (o : Done s list fl q rows rs hs p₂) → g ≡ freshOf (length (o .glyphs)) (length (o .wanted)) (length hs)
           done-from o = from ∙ rw (o .clear, o .count, o .holds .count)
 
           case-search : Outcome → SearchReady (length (p₂ .records)) (length hs) rows g
           case-search (inl o) = subst (SearchReady (length (p₂ .records)) (length hs) rows) (sym (halt-from o)) (record {
-            size = row-size q x rows asks;
+            size = row-size fl q x rows asks;
             good = λ z. absurd (let y : 0 < 0 = z in omega arith);
             records = omega arith;
             hits = refl;
           })
           case-search (inr o) = subst (SearchReady (length (p₂ .records)) (length hs) rows) (sym (done-from o)) (record {
-            size = row-size q x rows asks;
+            size = row-size fl q x rows asks;
             good = λ z. record { few = o .few; glyph = o .holds .some; most = o .holds .few; inside = let y : 0 < leftAt (length (o .glyphs)) 0 0 = z in omega arith; left = refl };
             records = enough o;
             hits = refl;
@@ -429,33 +465,33 @@ module _ (s list q : List ℕ) (rs : List Record) (es : List Entry) (hs : List �
           pub search-sound : SearchReady (length (p₂ .records)) (length hs) rows g
           search-sound = case-search outcome
 
-          module _ (l : Looked) (looks : l ≡ searchOf s q rows (p₂ .records) (record { state = g; hits = hs })) where
+          module _ (l : Looked) (looks : l ≡ searchOf s q fl rows (p₂ .records) (record { state = g; hits = hs })) where
             abbrev Answered : Found → Type 0
             Answered y = (findAnswerOf (p₂ .state) (l .state) ≡ findingOf y) × (p₂ .records ≡ recordsFound rs y) × (l .hits ≡ hitsOver hs y)
 
-            halt-finds : Halt s list q rs hs p₂ → Answered told
+            halt-finds : Halt s list fl q rs hs p₂ → Answered told
             unfolding searchFor
             halt-finds o =
                 let k : l ≡ record { state = g; hits = hs } = looks ∙ rw (halt-from o) in
                 subst Answered (sym (o .answered))
                 (rw (o .state, ne-eqb (o .number) 0 (λ z. let y : 0 < o .number = o .some in omega arith)), o .records, ap (λ (i : Looked). i .hits) k)
 
-            module _ (o : Done s list q rows rs hs p₂) where
+            module _ (o : Done s list fl q rows rs hs p₂) where
               abbrev listed : List ℕ
-              listed = hitsFrom (o .wanted) 0 (map keyOfRow (o .glyphs))
+              listed = hitsFrom (map (sought (o .families)) (o .wanted)) 0 (map keyOfRow (o .glyphs))
 
               abbrev searchedFor : List ℕ
-              searchedFor = hitsFrom (wantedFrom (length (o .wanted)) q rows 0) 0 (map (λ (r : Record). keyIn s (recordKey r)) (take (length (o .glyphs)) (p₂ .records)))
+              searchedFor = hitsFrom (soughtFrom (length (o .wanted)) q fl rows 0) 0 (map (λ (r : Record). keyIn s (recordKey r)) (take (length (o .glyphs)) (p₂ .records)))
 
               -- the search looks for the query's glyphs in the records of the stream
               listed-is : searchedFor ≡ listed
-              listed-is = rw (wanted-all q (o .wanted) rows (o .holds .row), o .records, row-seen s (o .glyphs) rs (o .stand))
+              listed-is = rw (sought-all (o .families) q (o .wanted) fl rows (o .holds .row), o .records, row-seen s (o .glyphs) rs (o .stand))
 
               exact : (l .hits ≡ over searchedFor hs) × (l .state .hits ≡ length searchedFor)
               exact =
                   subst (λ (i : Looked). (i .hits ≡ over searchedFor hs) × (i .state .hits ≡ length searchedFor))
-                  (sym (looks ∙ ap (λ (i : Progress). searchOf s q rows (p₂ .records) (record { state = i; hits = hs })) (done-from o)))
-                  (search-exact s q rows (p₂ .records) (length (o .glyphs)) (length (o .wanted)) (enough o) hs (rw listed-is (o .room)) (o .few) (o .holds .some) (o .holds .few))
+                  (sym (looks ∙ ap (λ (i : Progress). searchOf s q fl rows (p₂ .records) (record { state = i; hits = hs })) (done-from o)))
+                  (search-exact s q fl rows (p₂ .records) (length (o .glyphs)) (length (o .wanted)) (enough o) hs (rw listed-is (o .room)) (o .few) (o .holds .some) (o .holds .few))
 
               done-finds : Answered told
               done-finds =

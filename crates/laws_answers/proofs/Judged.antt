@@ -4,7 +4,7 @@ use native.Mathlib.Omega.{arith}
 use mathlib.Core.Bool.{Bool, true, false}
 use mathlib.Core.List.{List, [], _∷_, map}
 use mathlib.Core.Logic.{inl, inr}
-use mathlib.Core.Path.{_≡_, refl, sym, ap, subst, _∙_}
+use mathlib.Core.Path.{_≡_, refl, sym, ap, _∙_}
 use lib.ListN.{length}
 use borrow.Author.Tests.{ltb-false, le-ltb}
 use Rattle.rules.specs.declared.Judging.{Judging}
@@ -12,14 +12,14 @@ use Rattle.rules.specs.declared.Judging.the-variants as J
 use Rattle.rules.specs.Widths.{widthList}
 use Rattle.rules.specs.State.{Env}
 use Rattle.rules.specs.Record.{GlyphRow, ItemRow, Answer, refuse, answer}
-use Rattle.rules.specs.Find.{Wanted, hitsFrom, wellFormed, query}
+use Rattle.rules.specs.Families.{Family, grouped, familyList}
+use Rattle.rules.specs.Find.{Wanted, sought, hitsFrom, wellFormed, query}
 use Rattle.rules.specs.Answers.{streamMost, isOver, read, isAccepted, readInto, notSpelled, spelled, spellWith, respell, respellInto, Found, notFound, found, keyOf, find, foundIn, findInto, lengthOf, judgingOf, judge}
 use Rattle.laws.proofs.Cases.{on, no}
 use Rattle.laws_find.specs.Occurs.{Elem, Above}
-use Rattle.laws_offsets.specs.Offsets.{InTableTo}
 use Rattle.laws_answers.specs.Statements.{Accepted, rowsIn, Exact, Judged}
 use Rattle.laws_answers.proofs.Theorems.{exactness, answered, queryText, roomy}
-use Rattle.laws_answers.proofs.Numbers.{not-13, numbers}
+use Rattle.laws_answers.proofs.Numbers.{numbers, find-not-13}
 
 -- ---- the judge's answer taken apart
 
@@ -150,27 +150,28 @@ module _ (s list : List ℕ) where
     spelling-most : t ≤ suc streamMost
     spelling-most = rw (← known .bytes) (limit-most (spellWith s (widthList list)))
 
-    module _ (q : List ℕ) (records hits : ℕ) (a : r ≤ records) (b : r ≤ hits) where
-      finder : findInto records hits s list q ≡ find s list q
+    module _ (fl q : List ℕ) (records hits : ℕ) (a : r ≤ records) (b : r ≤ hits) where
+      finder : findInto records hits s list fl q ≡ find s list fl q
       unfolding findInto
-      finder = go (find s list q) refl
+      finder = go (find s list fl q) refl
         where
-          go : (y : Found) → find s list q ≡ y → foundIn records hits y ≡ y
+          go : (y : Found) → find s list fl q ≡ y → foundIn records hits y ≡ y
           go (notFound n at) e = refl
           go (found rs is) e =
-              let z : Exact s list q rs is = exactness s list q rs is e in
+              let z : Exact s list fl q rs is = exactness s list fl q rs is e in
               let c : length rs ≡ r = ap (λ (l : List GlyphRow). length l) (sym (z .records)) ∙ records-are in
               let d : 0 + length is ≤ length rs = hits-few is 0 (length rs) (omega arith) (z .rising) (z .below) in
               rw (le-ltb records (length rs) (omega arith), le-ltb hits (length is) (omega arith))
 
-      finder-never-13 : (n at : ℕ) → findInto records hits s list q ≡ notFound n at → n ≡ 13 → ⊥
-      finder-never-13 n at e k = not-13 12 (omega arith) (subst (InTableTo 12) k (numbers .find-numbers s list q n at (sym finder ∙ e)))
+      finder-never-13 : (n at : ℕ) → findInto records hits s list fl q ≡ notFound n at → n ≡ 13 → ⊥
+      finder-never-13 n at e k = find-not-13 s list fl q n at (sym finder ∙ e) k
 
-      finder-found : (qs : List Wanted) → query q ≡ wellFormed qs → (rs : List GlyphRow) × (is : List ℕ) × (findInto records hits s list q ≡ found rs is) × (length rs ≡ r)
-      finder-found qs e = (
+      finder-found : (fs : List Family) (qs : List Wanted) → familyList fl ≡ grouped fs → length fl ≤ 65_536 → query q ≡ wellFormed qs
+          → (rs : List GlyphRow) × (is : List ℕ) × (findInto records hits s list fl q ≡ found rs is) × (length rs ≡ r)
+      finder-found fs qs g l e = (
         rowsIn (read s list),
-        hitsFrom qs 0 (map keyOf (rowsIn (read s list))),
-        finder ∙ answered .accepted s list q qs is-accepted e (le-ltb 8_192 (length q) (queryText .short q qs e)),
+        hitsFrom (map (sought fs) qs) 0 (map keyOf (rowsIn (read s list))),
+        finder ∙ answered .accepted s list fl q fs qs is-accepted g (le-ltb 65_536 (length fl) l) e (le-ltb 8_192 (length q) (queryText .short q qs e)),
         records-are,
       )
 
@@ -184,7 +185,7 @@ judged = record {
   rewriter = λ s list r x p t room h a b. rewriter s list r x p t h room a b;
   rewriter-over = λ s list r x p t room h a. rewriter-over s list r x p t h room a;
   spelling-most = spelling-most;
-  finder = λ s list q r x p t records hits h a b. finder s list r x p t h q records hits a b;
-  finder-never-13 = λ s list q r x p t records hits n at h a b e k. finder-never-13 s list r x p t h q records hits a b n at e k;
-  finder-found = λ s list q qs r x p t records hits h a b e. finder-found s list r x p t h q records hits a b qs e;
+  finder = λ s list fl q r x p t records hits h a b. finder s list r x p t h fl q records hits a b;
+  finder-never-13 = λ s list fl q r x p t records hits n at h a b e k. finder-never-13 s list r x p t h fl q records hits a b n at e k;
+  finder-found = λ s list fl q fs qs r x p t records hits h a b g l e. finder-found s list r x p t h fl q records hits a b fs qs g l e;
 }

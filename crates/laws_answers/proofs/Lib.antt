@@ -1,3 +1,4 @@
 pub mod Theorems
 pub mod Numbers
 pub mod Judged
+pub mod Old

@@ -15,8 +15,9 @@ use Rattle.rules.specs.Widths.{Widths, WidthList, unsound, sound, widthList}
 use Rattle.rules.specs.State.{corner, Env, start, Glyph, Item, Step, refused, went, steps}
 use Rattle.rules.specs.Record.{GlyphRow, Answer, refuse, answer, follow, seen}
 use Rattle.rules.specs.House.{played, spelling, spellAll}
-use Rattle.rules.specs.Find.{Wanted, Key, key, hitsFrom, Query, illFormed, wellFormed, query}
-use Rattle.rules.specs.Answers.{streamMost, isOver, read, isAccepted, Spelling, notSpelled, spelled, spellIf, spellWith, respell, Found, notFound, found, keyOf, hitsIn, findAsked, findWith, find, readInto, respellInto, findInto}
+use Rattle.rules.specs.Families.{Family, FamilyList, illGrouped, grouped, familyList}
+use Rattle.rules.specs.Find.{Wanted, Key, key, Sought, sought, hitsFrom, Query, illFormed, wellFormed, query}
+use Rattle.rules.specs.Answers.{streamMost, isOver, read, isAccepted, Spelling, notSpelled, spelled, spellIf, spellWith, respell, Found, notFound, found, keyOf, hitsIn, findAsked, findGrouped, findWith, find, readInto, respellInto, findInto}
 use Rattle.laws.proofs.Cases.{on, no, or-true}
 use Rattle.laws.proofs.Good.{AllGood}
 use Rattle.laws_read.specs.Outline.{Sign, byteSign, signsOf, outline, keysFrom}
@@ -30,7 +31,8 @@ use Rattle.laws_read.proofs.Spots.{spelling-spots}
 use Rattle.laws_read.proofs.Placed.{didGo, seen-follow, seen-goes, goes-well, says, finish-well}
 use Rattle.laws_read.proofs.Spells.{played-fair, house-good}
 use Rattle.laws_print.proofs.Trip.{placed, round-trip, bare-placed, placed-ended}
-use Rattle.laws_find.specs.Occurs.{QueryShape, OccursAt, Elem}
+use Rattle.laws_find.specs.Occurs.{keyAt, wantedAt, QueryShape, OccursAt, Elem}
+use Rattle.laws_find.proofs.Families.{grouped-parted, match-good}
 use Rattle.laws_find.proofs.Exact.{hits-rise, hits-occur, occurs-hits}
 use Rattle.laws_find.proofs.Asked.{query-shape, shape-some}
 use Rattle.laws_find.proofs.Written.{written-read, read-written, query-short, names-some}
@@ -249,26 +251,38 @@ oneSpelling = record { by-commands = same-commands; sound-list = sound-list; acc
 
 -- ---- finding
 
--- what the finder does with an accepted stream: the query is judged, then the records are searched
-abbrev searched : Answer → Query → Found
-searched a (illFormed at) = notFound 12 at
-searched a (wellFormed qs) = hitsIn qs a
+-- what the finder does with an accepted stream: the family list and the query are judged, then the records are searched
+abbrev searched : Answer → List Family → Query → Found
+searched a fs (illFormed at) = notFound 12 at
+searched a fs (wellFormed qs) = hitsIn (map (sought fs) qs) a
 
-abbrev searchedIf : Bool → Answer → Query → Found
-searchedIf b a x = if b then notFound 1 0 else searched a x
+abbrev searchedIn : Answer → Query → FamilyList → Found
+searchedIn a x (illGrouped at) = notFound 14 at
+searchedIn a x (grouped fs) = searched a fs x
 
-pub find-searched : (s list q : List ℕ) → SoundInputs s list → find s list q ≡ searchedIf (isOver 8_192 q) (read s list) (query q)
+abbrev searchedIf : Bool → Answer → Query → FamilyList → Found
+searchedIf b a x g = if b then notFound 1 0 else searchedIn a x g
+
+-- the family list or the query is too long
+abbrev pub isLong : List ℕ → List ℕ → Bool
+isLong fl q = isOver 65_536 fl || isOver 8_192 q
+
+pub find-searched : (s list fl q : List ℕ) → SoundInputs s list → find s list fl q ≡ searchedIf (isLong fl q) (read s list) (query q) (familyList fl)
 unfolding find
-find-searched s list q z =
-    rw (z .stream-short, z .list-short, z .list-sound, read-follow s list z) (go (isOver 8_192 q) (query q))
+find-searched s list fl q z =
+    rw (z .stream-short, z .list-short, z .list-sound, read-follow s list z) (go (isLong fl q) (familyList fl))
   where
-    a : Answer
-    a = follow (z .widths) start (commands 0 0 s)
+    asked : (x : Query) (fs : List Family) → findAsked s (z .widths) fs x ≡ searched (follow (z .widths) start (commands 0 0 s)) fs x
+    asked (illFormed at) fs = refl
+    asked (wellFormed qs) fs = refl
 
-    go : (b : Bool) (x : Query) → (if b then notFound 1 0 else findAsked s (z .widths) x) ≡ searchedIf b (follow (z .widths) start (commands 0 0 s)) x
-    go true x = refl
-    go false (illFormed at) = refl
-    go false (wellFormed qs) = refl
+    with-families : (y : FamilyList) → findGrouped s (z .widths) q y ≡ searchedIn (follow (z .widths) start (commands 0 0 s)) (query q) y
+    with-families (illGrouped at) = refl
+    with-families (grouped fs) = asked (query q) fs
+
+    go : (b : Bool) (y : FamilyList) → (if b then notFound 1 0 else findGrouped s (z .widths) q y) ≡ searchedIf b (follow (z .widths) start (commands 0 0 s)) (query q) y
+    go true y = refl
+    go false y = with-families y
 
 abbrev pub keysIn : Answer → List Key
 keysIn a = map keyOf (rowsIn a)
@@ -277,23 +291,24 @@ length-keys : (rs : List GlyphRow) → length (map keyOf rs) ≡ length rs
 length-keys [] = refl
 length-keys (r ∷ rs) = ap suc (length-keys rs)
 
-told-hits : (qs : List Wanted) (a : Answer) → isAccepted a ≡ true → told (hitsIn qs a) ≡ listed (hitsFrom qs 0 (keysIn a)) (length (keysIn a))
+told-hits : (qs : List Sought) (a : Answer) → isAccepted a ≡ true → told (hitsIn qs a) ≡ listed (hitsFrom qs 0 (keysIn a)) (length (keysIn a))
 told-hits qs (refuse n at) h = no h
 told-hits qs (answer rs xs e) h = ap (listed (hitsFrom qs 0 (map keyOf rs))) (sym (length-keys rs))
 
-told-searched : (b : Bool) (x : Query) (a a′ : Answer) → isAccepted a ≡ true → isAccepted a′ ≡ true → keysIn a ≡ keysIn a′
-    → told (searchedIf b a x) ≡ told (searchedIf b a′ x)
-told-searched true x a a′ h h′ e = refl
-told-searched false (illFormed at) a a′ h h′ e = refl
-told-searched false (wellFormed qs) a a′ h h′ e = told-hits qs a h ∙ rw e (sym (told-hits qs a′ h′))
+told-searched : (b : Bool) (x : Query) (g : FamilyList) (a a′ : Answer) → isAccepted a ≡ true → isAccepted a′ ≡ true → keysIn a ≡ keysIn a′
+    → told (searchedIf b a x g) ≡ told (searchedIf b a′ x g)
+told-searched true x g a a′ h h′ e = refl
+told-searched false x (illGrouped at) a a′ h h′ e = refl
+told-searched false (illFormed at) (grouped fs) a a′ h h′ e = refl
+told-searched false (wellFormed qs) (grouped fs) a a′ h h′ e = told-hits (map (sought fs) qs) a h ∙ rw e (sym (told-hits (map (sought fs) qs) a′ h′))
 
--- finding depends only on the names' bytes, the gap signs and the page ordinals of the records, in order
+-- with one family list, finding depends only on the names' bytes, the gap signs and the page ordinals of the records, in order
 pub found-by-keys : (s list s′ list′ : List ℕ) → Accepted s list → Accepted s′ list′ → keysIn (read s list) ≡ keysIn (read s′ list′)
-    → (q : List ℕ) → told (find s list q) ≡ told (find s′ list′ q)
-found-by-keys s list s′ list′ h h′ e q =
-    ap told (find-searched s list q (sound-of s list h))
-    ∙ told-searched (isOver 8_192 q) (query q) (read s list) (read s′ list′) h h′ e
-    ∙ sym (ap told (find-searched s′ list′ q (sound-of s′ list′ h′)))
+    → (fl q : List ℕ) → told (find s list fl q) ≡ told (find s′ list′ fl q)
+found-by-keys s list s′ list′ h h′ e fl q =
+    ap told (find-searched s list fl q (sound-of s list h))
+    ∙ told-searched (isLong fl q) (query q) (familyList fl) (read s list) (read s′ list′) h h′ e
+    ∙ sym (ap told (find-searched s′ list′ fl q (sound-of s′ list′ h′)))
 
 keys-glyphs : (x : Answer) → keysIn x ≡ map key (glyphsOf (seen x))
 keys-glyphs (refuse n at) = refl
@@ -337,74 +352,69 @@ abbrev hitsOf : Found → List ℕ
 hitsOf (notFound n at) = []
 hitsOf (found rs is) = is
 
--- the finder's list comes from a sound list, a well-formed query and an accepted stream
-pub record Searched (s list q : List ℕ) (rs : List GlyphRow) (is : List ℕ) : Type 0 where
+-- the finder's list comes from sound lists, a well-formed query and an accepted stream
+pub record Searched (s list fl q : List ℕ) (rs : List GlyphRow) (is : List ℕ) : Type 0 where
+  pub families : List Family
+  pub sound-families : familyList fl ≡ grouped families
   pub wanted : List Wanted
   pub asked : query q ≡ wellFormed wanted
+  pub accepted : Accepted s list
   pub records : rowsIn (read s list) ≡ rs
-  pub hits : is ≡ hitsFrom wanted 0 (map keyOf rs)
+  pub hits : is ≡ hitsFrom (map (sought families) wanted) 0 (map keyOf rs)
 
-hits-searched : (qs : List Wanted) (a : Answer) (rs : List GlyphRow) (is : List ℕ) → hitsIn qs a ≡ found rs is
-    → (rowsIn a ≡ rs) × (is ≡ hitsFrom qs 0 (map keyOf rs))
+hits-searched : (qs : List Sought) (a : Answer) (rs : List GlyphRow) (is : List ℕ) → hitsIn qs a ≡ found rs is
+    → (isAccepted a ≡ true) × (rowsIn a ≡ rs) × (is ≡ hitsFrom qs 0 (map keyOf rs))
 hits-searched qs (refuse n at) rs is h = no (ap isFound h)
 hits-searched qs (answer rs′ xs e) rs is h =
     let r : rs′ ≡ rs = ap rowsOf h in
-    (r, sym (ap hitsOf h) ∙ ap (λ (l : List GlyphRow). hitsFrom qs 0 (map keyOf l)) r)
+    (refl, r, sym (ap hitsOf h) ∙ ap (λ (l : List GlyphRow). hitsFrom qs 0 (map keyOf l)) r)
 
-searched-if : (s list q : List ℕ) (rs : List GlyphRow) (is : List ℕ) (b : Bool) (x : Query) → query q ≡ x → searchedIf b (read s list) x ≡ found rs is
-    → Searched s list q rs is
-searched-if s list q rs is true x e h = no (ap isFound h)
-searched-if s list q rs is false (illFormed at) e h = no (ap isFound h)
-searched-if s list q rs is false (wellFormed qs) e h =
-    let p : (rowsIn (read s list) ≡ rs) × (is ≡ hitsFrom qs 0 (map keyOf rs)) = hits-searched qs (read s list) rs is h in
-    record { wanted = qs; asked = e; records = p .0; hits = p .1 }
+module _ (s list fl q : List ℕ) (rs : List GlyphRow) (is : List ℕ) where
+  searched-if : (b : Bool) (x : Query) (g : FamilyList) → query q ≡ x → familyList fl ≡ g → searchedIf b (read s list) x g ≡ found rs is → Searched s list fl q rs is
+  searched-if true x g e f h = no (ap isFound h)
+  searched-if false x (illGrouped at) e f h = no (ap isFound h)
+  searched-if false (illFormed at) (grouped fs) e f h = no (ap isFound h)
+  searched-if false (wellFormed qs) (grouped fs) e f h =
+      let p : (isAccepted (read s list) ≡ true) × (rowsIn (read s list) ≡ rs) × (is ≡ hitsFrom (map (sought fs) qs) 0 (map keyOf rs)) = hits-searched (map (sought fs) qs) (read s list) rs is h in
+      record { families = fs; sound-families = f; wanted = qs; asked = e; accepted = p .0; records = p .1; hits = p .2 }
 
--- a list of hits is given only for an accepted stream
-found-sound : (s list q : List ℕ) (rs : List GlyphRow) (is : List ℕ) → find s list q ≡ found rs is → SoundInputs s list
-unfolding find
-found-sound s list q rs is h =
-    on (isOver streamMost s) (λ k. no (ap isFound (rw k at h)))
-    (λ k. on (isOver 65_536 list) (λ j. no (ap isFound (rw (k, j) at h)))
-    (λ j. on (isOver 8_192 q) (λ i. no (ap isFound (rw (k, j, i) at h))) (λ i. go k j (widthList list) refl (rw (k, j, i) at h))))
-  where
-    go : isOver streamMost s ≡ false → isOver 65_536 list ≡ false → (x : WidthList) → widthList list ≡ x → findWith s q x ≡ found rs is → SoundInputs s list
-    go k j (unsound at) e a = no (ap isFound a)
-    go k j (sound v) e a = record { widths = v; list-sound = e; stream-short = k; list-short = j }
-
--- and the stream is accepted
-found-accepted : (s list q : List ℕ) (rs : List GlyphRow) (is : List ℕ) → find s list q ≡ found rs is → Accepted s list
-found-accepted s list q rs is h = go (isOver 8_192 q) (query q) (sym (find-searched s list q (found-sound s list q rs is h)) ∙ h)
-  where
-    read-in : (qs : List Wanted) (a : Answer) → hitsIn qs a ≡ found rs is → isAccepted a ≡ true
-    read-in qs (refuse n at) k = no (ap isFound k)
-    read-in qs (answer rs′ xs e) k = refl
-
-    go : (b : Bool) (x : Query) → searchedIf b (read s list) x ≡ found rs is → Accepted s list
-    go true x k = no (ap isFound k)
-    go false (illFormed at) k = no (ap isFound k)
-    go false (wellFormed qs) k = read-in qs (read s list) k
+  -- a list of hits is given only where no input is too long and the width list is sound
+  found-sound : find s list fl q ≡ found rs is → SoundInputs s list
+  unfolding find
+  found-sound h =
+      on (isOver streamMost s) (λ k. no (ap isFound (rw k at h)))
+      (λ k. on (isOver 65_536 list) (λ j. no (ap isFound (rw (k, j) at h)))
+      (λ j. on (isLong fl q) (λ i. no (ap isFound (rw (k, j, i) at h))) (λ i. go k j (widthList list) refl (rw (k, j, i) at h))))
+    where
+      go : isOver streamMost s ≡ false → isOver 65_536 list ≡ false → (x : WidthList) → widthList list ≡ x → findWith s fl q x ≡ found rs is → SoundInputs s list
+      go k j (unsound at) e a = no (ap isFound a)
+      go k j (sound v) e a = record { widths = v; list-sound = e; stream-short = k; list-short = j }
 
 pub exactness : Exactness
-exactness s list q rs is h = go (searched-if s list q rs is (isOver 8_192 q) (query q) refl (sym (find-searched s list q (found-sound s list q rs is h)) ∙ h))
+exactness s list fl q rs is h =
+    go (searched-if s list fl q rs is (isLong fl q) (query q) (familyList fl) refl refl (sym (find-searched s list fl q (found-sound s list fl q rs is h)) ∙ h))
   where
-    below : (qs : List Wanted) (i : ℕ) → 0 < length qs → OccursAt qs (map keyOf rs) i → i < length rs
-    below qs i p o = let e : i + length qs ≤ length (map keyOf rs) = o .exist in omega (arith, length-keys rs)
+    below : (fs : List Family) (qs : List Wanted) (i : ℕ) → 0 < length qs → OccursAt fs qs (map keyOf rs) i → i < length rs
+    below fs qs i p o = let e : i + length qs ≤ length (map keyOf rs) = o .exist in omega (arith, length-keys rs)
 
-    go : Searched s list q rs is → Exact s list q rs is
+    go : Searched s list fl q rs is → Exact s list fl q rs is
     go x =
+        let fs : List Family = x .families in
         let qs : List Wanted = x .wanted in
         let shape : QueryShape qs = query-shape q qs (x .asked) in
-        let only : (i : ℕ) → Elem i is → OccursAt qs (map keyOf rs) i = λ i m. hits-occur qs (map keyOf rs) i (rw (x .hits) at m) in
+        let only : (i : ℕ) → Elem i is → OccursAt fs qs (map keyOf rs) i = λ i m. hits-occur fs qs (map keyOf rs) i (rw (x .hits) at m) in
         record {
+          families = fs;
+          sound-families = x .sound-families;
           glyphs = qs;
           asked = x .asked;
           shape = shape;
-          accepted = found-accepted s list q rs is h;
+          accepted = x .accepted;
           records = x .records;
-          rising = rw (x .hits) (hits-rise qs (map keyOf rs));
+          rising = rw (x .hits) (hits-rise (map (sought fs) qs) (map keyOf rs));
           only = only;
-          every = λ i o. rw (x .hits) (occurs-hits qs (map keyOf rs) i (shape-some qs shape) o);
-          below = λ i m. below qs i (shape-some qs shape) (only i m);
+          every = λ i o. rw (x .hits) (occurs-hits fs qs (map keyOf rs) i (grouped-parted fl fs (x .sound-families)) (shape-some qs shape) o);
+          below = λ i m. below fs qs i (shape-some qs shape) (only i m);
         }
 
 -- ---- names
@@ -443,44 +453,44 @@ likeness s list s′ list′ h h′ a =
 
 -- ---- every well-formed query is answered
 
-sound-or : (s list : List ℕ) (x : WidthList) → widthList list ≡ x → isOver streamMost s ≡ false → isOver 65_536 list ≡ false → (n at : ℕ) → read s list ≡ refuse n at → (q : List ℕ) (qs : List Wanted)
-    → query q ≡ wellFormed qs → isOver 8_192 q ≡ false → find s list q ≡ notFound n at
-unfolding read find
-sound-or s list (unsound at′) e k j n at h q qs a o = rw (k, j, o, e) (refused-as (rw (k, j, e) at h))
-  where
-    numbersOf : Answer → Found
-    numbersOf (refuse m b) = notFound m b
-    numbersOf (answer rs xs d) = notFound 0 0
+abbrev numbersOf : Answer → Found
+numbersOf (refuse m b) = notFound m b
+numbersOf (answer rs xs d) = notFound 0 0
 
-    refused-as : refuse 2 at′ ≡ refuse n at → notFound 2 at′ ≡ notFound n at
-    refused-as z = ap numbersOf z
-sound-or s list (sound v) e k j n at h q qs a o = rw (k, j, o, e, a, rw (k, j, e) at h)
+module _ (s list fl q : List ℕ) (fs : List Family) (qs : List Wanted) (g : familyList fl ≡ grouped fs) (l : isOver 65_536 fl ≡ false) (a : query q ≡ wellFormed qs) (o : isOver 8_192 q ≡ false) where
+  sound-or : (x : WidthList) → widthList list ≡ x → isOver streamMost s ≡ false → isOver 65_536 list ≡ false → (n at : ℕ) → read s list ≡ refuse n at → find s list fl q ≡ notFound n at
+  unfolding read find
+  sound-or (unsound p) e k j n at h = rw (k, j, l, o, e) (ap numbersOf (let z : refuse 2 p ≡ refuse n at = rw (k, j, e) at h in z))
+  sound-or (sound v) e k j n at h = rw (k, j, l, o, e, g, a, rw (k, j, e) at h)
 
-refused-find : (s list q : List ℕ) (qs : List Wanted) (n at : ℕ) → query q ≡ wellFormed qs → isOver 8_192 q ≡ false → read s list ≡ refuse n at → find s list q ≡ notFound n at
-unfolding read find
-refused-find s list q qs n at a o h =
-    on (isOver streamMost s) (λ k. rw k (ap numbersOf (rw k at h)))
-    (λ k. on (isOver 65_536 list) (λ j. rw (k, j) (ap numbersOf (rw (k, j) at h))) (λ j. sound-or s list (widthList list) refl k j n at h q qs a o))
-  where
-    numbersOf : Answer → Found
-    numbersOf (refuse m b) = notFound m b
-    numbersOf (answer rs xs d) = notFound 0 0
+  refused-find : (n at : ℕ) → read s list ≡ refuse n at → find s list fl q ≡ notFound n at
+  unfolding read find
+  refused-find n at h =
+      on (isOver streamMost s) (λ k. rw k (ap numbersOf (rw k at h)))
+      (λ k. on (isOver 65_536 list) (λ j. rw (k, j) (ap numbersOf (rw (k, j) at h))) (λ j. sound-or (widthList list) refl k j n at h))
 
-accepted-find : (s list q : List ℕ) (qs : List Wanted) → Accepted s list → query q ≡ wellFormed qs → isOver 8_192 q ≡ false
-    → find s list q ≡ found (rowsIn (read s list)) (hitsFrom qs 0 (map keyOf (rowsIn (read s list))))
-accepted-find s list q qs h a o = find-searched s list q (sound-of s list h) ∙ rw (o, a) (go (read s list) h)
-  where
-    go : (x : Answer) → isAccepted x ≡ true → hitsIn qs x ≡ found (rowsIn x) (hitsFrom qs 0 (map keyOf (rowsIn x)))
-    go (refuse n at) k = no k
-    go (answer rs xs e) k = refl
+  accepted-find : Accepted s list → find s list fl q ≡ found (rowsIn (read s list)) (hitsFrom (map (sought fs) qs) 0 (map keyOf (rowsIn (read s list))))
+  accepted-find h = find-searched s list fl q (sound-of s list h) ∙ rw (l, o, a, g) (go (read s list) h)
+    where
+      go : (x : Answer) → isAccepted x ≡ true → hitsIn (map (sought fs) qs) x ≡ found (rowsIn x) (hitsFrom (map (sought fs) qs) 0 (map keyOf (rowsIn x)))
+      go (refuse n at) k = no k
+      go (answer rs xs e) k = refl
 
 pub answered : Answered
-answered = record { accepted = accepted-find; refused = refused-find }
+answered = record {
+  accepted = λ s list fl q fs qs h g l a o. accepted-find s list fl q fs qs g l a o h;
+  refused = λ s list fl q fs qs n at g l a o h. refused-find s list fl q fs qs g l a o n at h;
+}
 
 -- ---- what a query's text asks
 
+named : (fl q : List ℕ) (fs : List Family) (qs : List Wanted) (ks : List Key) (i j : ℕ) → familyList fl ≡ grouped fs → query q ≡ wellFormed qs → OccursAt fs qs ks i → j < length qs
+    → 1 ≤ length (keyAt ks (i + j) .name)
+named fl q fs qs ks i j g a o l =
+    match-good fs (keyAt ks (i + j) .name) (wantedAt qs j .name) (grouped-parted fl fs g) (o .name j l) (names-some q qs j a l) .some
+
 pub queryText : QueryText
-queryText = record { asks = written-read; only = read-written; short = query-short; named = names-some }
+queryText = record { asks = written-read; only = read-written; short = query-short; named = named }
 
 -- ---- enough room
 
@@ -492,7 +502,7 @@ unfolding readInto respellInto findInto
 roomy = record {
   reader = λ records entries s list rs xs e h a b. rw (h, enough (length rs) records a, enough (length xs) entries b);
   rewriter = λ room s list t h a. rw (h, enough (length t) room a);
-  finder = λ records hits s list q rs is h a b. rw (h, enough (length rs) records a, enough (length is) hits b);
+  finder = λ records hits s list fl q rs is h a b. rw (h, enough (length rs) records a, enough (length is) hits b);
 }
 
 -- ---- limits
@@ -515,9 +525,10 @@ unfolding read find
 limits-hold = record {
   long-stream = λ s list h. rw (lt-ltb streamMost (length s) h);
   long-list = λ s list h. rw (lt-ltb 65_536 (length list) h, or-true (isOver streamMost s) true refl);
-  long-query = λ s list q h. rw (lt-ltb 8_192 (length q) h, or-true (isOver 65_536 list) true refl, or-true (isOver streamMost s) true refl);
+  long-families = λ s list fl q h. rw (lt-ltb 65_536 (length fl) h, or-true (isOver 65_536 list) true refl, or-true (isOver streamMost s) true refl);
+  long-query = λ s list fl q h. rw (lt-ltb 8_192 (length q) h, or-true (isOver 65_536 fl) true refl, or-true (isOver 65_536 list) true refl, or-true (isOver streamMost s) true refl);
   not-long = λ s list h k. rw (enough (length s) streamMost h, enough (length list) 65_536 k);
-  not-long-query = λ s list q h k l. rw (enough (length s) streamMost h, enough (length list) 65_536 k, enough (length q) 8_192 l);
+  not-long-query = λ s list fl q h k m l. rw (enough (length s) streamMost h, enough (length list) 65_536 k, enough (length fl) 65_536 m, enough (length q) 8_192 l);
   not-long-spelling = short-spelling;
   long-spelling = long-spelling;
   text = λ t h. rw (le-leb (length t) 4_096 h);

@@ -1,5 +1,5 @@
 -- The theorems of demands 2 and 3, as statements about the answer functions of the rules (`read`, `respell`, `find`, `judge`), for
--- every list of bytes, width list and query. The proofs stand in `proofs/`.
+-- every list of bytes, width list, family list and query. The proofs stand in `proofs/`.
 use Prim.Native.Nat.{ℕ, suc, _+_, _<_, _≤_}
 use mathlib.Core.Bool.{Bool, true, false}
 use mathlib.Core.List.{List, [], _∷_, _++_, map}
@@ -13,7 +13,8 @@ use Rattle.rules.specs.Scan.{limits, commands, bare}
 use Rattle.rules.specs.Widths.{Widths, sound, widthList}
 use Rattle.rules.specs.State.{Spot, corner, Paint, noPaint, Env, Glyph, Item, start}
 use Rattle.rules.specs.Record.{GlyphRow, ItemRow, Answer, refuse, answer}
-use Rattle.rules.specs.Find.{Wanted, Key, Query, wellFormed, query, hitsFrom}
+use Rattle.rules.specs.Families.{Family, grouped, familyList}
+use Rattle.rules.specs.Find.{Wanted, Key, Query, wellFormed, query, sought, hitsFrom}
 use Rattle.rules.specs.Answers.{streamMost, isOver, readWith, read, readInto, isAccepted, Spelling, notSpelled, spelled, respell, respellInto, Found, notFound, found, keyOf, findWith, find, findInto, judge}
 use Rattle.laws_read.specs.Outline.{Sign, signsOf, outline}
 use Rattle.laws_read.specs.Kept.{unmotioned, allKept}
@@ -120,28 +121,32 @@ abbrev pub NamesStand : Type 0
 NamesStand = (s list : List ℕ) → NamesOf s (read s list)
 
 -- ---- demand 3: "the number of every glyph record of the stream at which the query occurs by 01's rule, each once, earliest first, and no
--- other"
+-- other"; 2026-01: "demand 3 with a sound family list"
 
 -- the records are the reader's, the numbers are rising, each is one at which the query occurs, and each of those is there
-pub record Exact (s list q : List ℕ) (rs : List GlyphRow) (is : List ℕ) : Type 0 where
+pub record Exact (s list fl q : List ℕ) (rs : List GlyphRow) (is : List ℕ) : Type 0 where
+  pub families : List Family
+  pub sound-families : familyList fl ≡ grouped families
   pub glyphs : List Wanted
   pub asked : query q ≡ wellFormed glyphs
   pub shape : QueryShape glyphs
   pub accepted : Accepted s list
   pub records : rowsIn (read s list) ≡ rs
   pub rising : Rising is
-  pub only : (i : ℕ) → Elem i is → OccursAt glyphs (map keyOf rs) i
-  pub every : (i : ℕ) → OccursAt glyphs (map keyOf rs) i → Elem i is
+  pub only : (i : ℕ) → Elem i is → OccursAt families glyphs (map keyOf rs) i
+  pub every : (i : ℕ) → OccursAt families glyphs (map keyOf rs) i → Elem i is
   pub below : (i : ℕ) → Elem i is → i < length rs
 
 abbrev pub Exactness : Type 0
-Exactness = (s list q : List ℕ) (rs : List GlyphRow) (is : List ℕ) → find s list q ≡ found rs is → Exact s list q rs is
+Exactness = (s list fl q : List ℕ) (rs : List GlyphRow) (is : List ℕ) → find s list fl q ≡ found rs is → Exact s list fl q rs is
 
--- a well-formed query on an accepted stream is answered, on any other stream refused as the reader refuses it
+-- with a sound family list that is not too long, a well-formed query on an accepted stream is answered, on any other stream refused as the
+-- reader refuses it
 pub record Answered : Type 0 where
-  pub accepted : (s list q : List ℕ) (qs : List Wanted) → Accepted s list → query q ≡ wellFormed qs → isOver 8_192 q ≡ false
-      → find s list q ≡ found (rowsIn (read s list)) (hitsFrom qs 0 (map keyOf (rowsIn (read s list))))
-  pub refused : (s list q : List ℕ) (qs : List Wanted) (n at : ℕ) → query q ≡ wellFormed qs → isOver 8_192 q ≡ false → read s list ≡ refuse n at → find s list q ≡ notFound n at
+  pub accepted : (s list fl q : List ℕ) (fs : List Family) (qs : List Wanted) → Accepted s list → familyList fl ≡ grouped fs → isOver 65_536 fl ≡ false → query q ≡ wellFormed qs → isOver 8_192 q ≡ false
+      → find s list fl q ≡ found (rowsIn (read s list)) (hitsFrom (map (sought fs) qs) 0 (map keyOf (rowsIn (read s list))))
+  pub refused : (s list fl q : List ℕ) (fs : List Family) (qs : List Wanted) (n at : ℕ) → familyList fl ≡ grouped fs → isOver 65_536 fl ≡ false → query q ≡ wellFormed qs → isOver 8_192 q ≡ false
+      → read s list ≡ refuse n at → find s list fl q ≡ notFound n at
 
 -- "A query has lines `glyph=NAME` and `gap=any`, each ended by a newline: 1 to 64 glyph lines, first and last line a glyph, never two
 -- gaps together. NAME is a string of 1 to 64 bytes": what is written for good glyphs asks for these, and nothing else is well formed
@@ -150,8 +155,9 @@ pub record QueryText : Type 0 where
   pub only : (q : List ℕ) (qs : List Wanted) → query q ≡ wellFormed qs → (q ≡ written qs) × GoodQuery qs
   -- "neither 1 nor 12 is against it": where 12 is not, 1 is not
   pub short : (q : List ℕ) (qs : List Wanted) → query q ≡ wellFormed qs → length q ≤ 8_192
-  -- "so an `N` record matches no query glyph": where the query occurs, no name is empty
-  pub named : (q : List ℕ) (qs : List Wanted) (ks : List Key) (i j : ℕ) → query q ≡ wellFormed qs → OccursAt qs ks i → j < length qs → 1 ≤ length (keyAt ks (i + j) .name)
+  -- "so an `N` record matches no query glyph": where the query occurs, with the families of any sound list, no name is empty
+  pub named : (fl q : List ℕ) (fs : List Family) (qs : List Wanted) (ks : List Key) (i j : ℕ) → familyList fl ≡ grouped fs → query q ≡ wellFormed qs → OccursAt fs qs ks i → j < length qs
+      → 1 ≤ length (keyAt ks (i + j) .name)
 
 -- what the finder tells of a stream: a refusal; or the list, and how many records there are
 pub data Told : Type 0 where
@@ -164,10 +170,10 @@ told (found rs is) = listed is (length rs)
 
 -- ---- "by which of t, u, c, C or the old two-digit form a one-byte name was set"
 
--- the outline of a stream's commands has the names, gaps and pages alone
+-- the outline of a stream's commands has the names, gaps and pages alone; 2026-01: a family list, "the same one for both streams"
 abbrev pub ByOutline : Type 0
 ByOutline = (s list s′ list′ : List ℕ) → Accepted s list → Accepted s′ list′ → outline (cmdsOf s) ≡ outline (cmdsOf s′)
-    → (q : List ℕ) → told (find s list q) ≡ told (find s′ list′ q)
+    → (fl q : List ℕ) → told (find s list fl q) ≡ told (find s′ list′ fl q)
 
 -- a command may stand for another of the same outline, anywhere; a word or two digits have the outline of single glyphs
 abbrev pub single : ℕ → Cmd
@@ -181,7 +187,8 @@ pub record ByAnyCommand : Type 0 where
   pub word-by-glyphs : (n : ℕ) (bs : List ℕ) (cs : List Cmd) → outline (word n bs ∷ cs) ≡ outline (map single bs ++ cs)
 
 -- ---- "any two accepted streams .. that have equally many records, record by record alike in name bytes, gap mark and page ordinal. On both
--- .. every well-formed query gives the same list and the same numbers."
+-- .. every well-formed query gives the same list and the same numbers."; 2026-01: "with a sound family list, the same one for both streams it
+-- compares" (here with any family list and any query)
 
 abbrev pub Alike : List ℕ → List GlyphRow → List ℕ → List GlyphRow → Type 0
 Alike s [] s′ [] = Unit {0}
@@ -192,7 +199,7 @@ Alike s (r ∷ rs) s′ (r′ ∷ rs′) =
 
 abbrev pub Likeness : Type 0
 Likeness = (s list s′ list′ : List ℕ) → Accepted s list → Accepted s′ list′ → Alike s (rowsIn (read s list)) s′ (rowsIn (read s′ list′))
-    → (q : List ℕ) → told (find s list q) ≡ told (find s′ list′ q)
+    → (fl q : List ℕ) → told (find s list fl q) ≡ told (find s′ list′ fl q)
 
 -- ---- "Rows with a place for each record and hit, in the reader for each record and entry, are large enough."
 
@@ -200,8 +207,8 @@ pub record Roomy : Type 0 where
   pub reader : (records entries : ℕ) (s list : List ℕ) (rs : List GlyphRow) (xs : List ItemRow) (e : Env) → read s list ≡ answer rs xs e → length rs ≤ records → length xs ≤ entries
       → readInto records entries s list ≡ answer rs xs e
   pub rewriter : (room : ℕ) (s list t : List ℕ) → respell s list ≡ spelled t → length t ≤ room → respellInto room s list ≡ spelled t
-  pub finder : (records hits : ℕ) (s list q : List ℕ) (rs : List GlyphRow) (is : List ℕ) → find s list q ≡ found rs is → length rs ≤ records → length is ≤ hits
-      → findInto records hits s list q ≡ found rs is
+  pub finder : (records hits : ℕ) (s list fl q : List ℕ) (rs : List GlyphRow) (is : List ℕ) → find s list fl q ≡ found rs is → length rs ≤ records → length is ≤ hits
+      → findInto records hits s list fl q ≡ found rs is
 
 -- ---- what the judge's answer says of the other routines: whoever lends what it asks for is never refused for room (house)
 
@@ -210,7 +217,7 @@ pub record Judged : Type 0 where
   -- it refuses as the reader does, room aside, and nothing else: the same number at the same place
   pub refused : (s list : List ℕ) (n at : ℕ) → judge s list ≡ J.Refused n at → read s list ≡ refuse n at
   pub refuses : (s list : List ℕ) (n at : ℕ) → read s list ≡ refuse n at → judge s list ≡ J.Refused n at
-  -- never with 12 or 13
+  -- never with 12, 13 or 14
   pub numbers : (s list : List ℕ) (n at : ℕ) → judge s list ≡ J.Refused n at → InTableTo 11 n
   -- what it accepts, the reader accepts, with just so many records, entries and pages
   pub accepted : (s list : List ℕ) (r x p t : ℕ) → judge s list ≡ J.Accepted r x p t
@@ -224,32 +231,35 @@ pub record Judged : Type 0 where
   pub rewriter-over : (s list : List ℕ) (r x p t room : ℕ) → judge s list ≡ J.Accepted r x p t → t ≡ suc streamMost → respellInto room s list ≡ notSpelled 13 0
   pub spelling-most : (s list : List ℕ) (r x p t : ℕ) → judge s list ≡ J.Accepted r x p t → t ≤ suc streamMost
   -- with r places for records and r for hits, or more, the finder answers any query as it does where room is no matter: never with 13,
-  -- and a well-formed query with r records
-  pub finder : (s list q : List ℕ) (r x p t records hits : ℕ) → judge s list ≡ J.Accepted r x p t → r ≤ records → r ≤ hits → findInto records hits s list q ≡ find s list q
-  pub finder-never-13 : (s list q : List ℕ) (r x p t records hits n at : ℕ) → judge s list ≡ J.Accepted r x p t → r ≤ records → r ≤ hits
-      → findInto records hits s list q ≡ notFound n at → n ≡ 13 → ⊥
-  pub finder-found : (s list q : List ℕ) (qs : List Wanted) (r x p t records hits : ℕ) → judge s list ≡ J.Accepted r x p t → r ≤ records → r ≤ hits → query q ≡ wellFormed qs
-      → (rs : List GlyphRow) × (is : List ℕ) × (findInto records hits s list q ≡ found rs is) × (length rs ≡ r)
+  -- and a well-formed query, with a sound family list that is not too long, with r records
+  pub finder : (s list fl q : List ℕ) (r x p t records hits : ℕ) → judge s list ≡ J.Accepted r x p t → r ≤ records → r ≤ hits → findInto records hits s list fl q ≡ find s list fl q
+  pub finder-never-13 : (s list fl q : List ℕ) (r x p t records hits n at : ℕ) → judge s list ≡ J.Accepted r x p t → r ≤ records → r ≤ hits
+      → findInto records hits s list fl q ≡ notFound n at → n ≡ 13 → ⊥
+  pub finder-found : (s list fl q : List ℕ) (fs : List Family) (qs : List Wanted) (r x p t records hits : ℕ) → judge s list ≡ J.Accepted r x p t → r ≤ records → r ≤ hits
+      → familyList fl ≡ grouped fs → length fl ≤ 65_536 → query q ≡ wellFormed qs
+      → (rs : List GlyphRow) × (is : List ℕ) × (findInto records hits s list fl q ≡ found rs is) × (length rs ≡ r)
 
--- ---- the limits that no sample reaches, as 01 has them: 16,777,216 bytes of a stream and of a spelling, 65,536 of a list, 8,192 of a
--- query, 4,096 of a text; each number itself is allowed
+-- ---- the limits that no sample reaches, as 01 and 2026-01 have them: 16,777,216 bytes of a stream and of a spelling, 65,536 of a width list
+-- and of a family list, 8,192 of a query, 4,096 of a text; each number itself is allowed
 
 pub record Limits : Type 0 where
   pub long-stream : (s list : List ℕ) → 16_777_216 < length s → read s list ≡ refuse 1 0
   pub long-list : (s list : List ℕ) → 65_536 < length list → read s list ≡ refuse 1 0
-  pub long-query : (s list q : List ℕ) → 8_192 < length q → find s list q ≡ notFound 1 0
+  pub long-families : (s list fl q : List ℕ) → 65_536 < length fl → find s list fl q ≡ notFound 1 0
+  pub long-query : (s list fl q : List ℕ) → 8_192 < length q → find s list fl q ≡ notFound 1 0
   pub not-long : (s list : List ℕ) → length s ≤ 16_777_216 → length list ≤ 65_536 → read s list ≡ readWith s (widthList list)
-  pub not-long-query : (s list q : List ℕ) → length s ≤ 16_777_216 → length list ≤ 65_536 → length q ≤ 8_192 → find s list q ≡ findWith s q (widthList list)
+  pub not-long-query : (s list fl q : List ℕ) → length s ≤ 16_777_216 → length list ≤ 65_536 → length fl ≤ 65_536 → length q ≤ 8_192 → find s list fl q ≡ findWith s fl q (widthList list)
   pub not-long-spelling : (s list : List ℕ) (w : Widths) → widthList list ≡ sound w → Accepted s list → length (houseText w s) ≤ 16_777_216 → respell s list ≡ spelled (houseText w s)
   pub long-spelling : (s list : List ℕ) (w : Widths) → widthList list ≡ sound w → Accepted s list → 16_777_216 < length (houseText w s) → respell s list ≡ notSpelled 13 0
   pub text : (t : List ℕ) → length t ≤ 4_096 → limits (raw t) ≡ true ∷ []
   pub long-text : (t : List ℕ) → 4_096 < length t → limits (raw t) ≡ false ∷ []
 
--- ---- "accept, or refuse with a number .. from the table in 01": the reader with 1 to 11 and 16 (2026-06), the finder with 12 too, "13 comes last"
+-- ---- "accept, or refuse with a number .. from the table in 01": the reader with 1 to 11 and 16 (2026-06), the finder with 12 and 14
+-- (2026-01) too, "13 comes last"
 
 pub record Numbers : Type 0 where
   pub read-numbers : (s list : List ℕ) (n at : ℕ) → read s list ≡ refuse n at → InTableTo 11 n
-  pub find-numbers : (s list q : List ℕ) (n at : ℕ) → find s list q ≡ notFound n at → InTableTo 12 n
+  pub find-numbers : (s list fl q : List ℕ) (n at : ℕ) → find s list fl q ≡ notFound n at → InTableTo 12 n ⊎ (n ≡ 14)
   pub reader : (records entries : ℕ) (s list : List ℕ) (n at : ℕ) → readInto records entries s list ≡ refuse n at → InTableTo 13 n
   pub rewriter : (room : ℕ) (s list : List ℕ) (n at : ℕ) → respellInto room s list ≡ notSpelled n at → InTableTo 13 n
-  pub finder : (records hits : ℕ) (s list q : List ℕ) (n at : ℕ) → findInto records hits s list q ≡ notFound n at → InTableTo 13 n
+  pub finder : (records hits : ℕ) (s list fl q : List ℕ) (n at : ℕ) → findInto records hits s list fl q ≡ notFound n at → InTableTo 14 n

@@ -3,40 +3,26 @@ use Prim.Native.Nat.{ℕ, zero, suc, _+_, _-_, _<_, _≤_}
 use native.Mathlib.Omega.{arith}
 use native.Mathlib.Nat.{add-zero, zero-add, le-of-suc-le-suc}
 use mathlib.Core.Bool.{Bool, true, false, _&&_}
-use mathlib.Core.List.{List, [], _∷_, _++_}
+use mathlib.Core.List.{List, [], _∷_, _++_, map}
 use mathlib.Core.Logic.{_⊎_, inl, inr}
 use mathlib.Core.Path.{_≡_, refl, sym, ap, ap₂, _∙_}
 use lib.Dec.{eqb}
 use lib.ListN.{length, drop, getD, length-drop}
 use lib.Seq.{getD-drop}
 use borrow.Author.Tests.{eqb-true, eq-eqb, ne-eqb}
-use Rattle.rules.specs.Bytes.{if_then_else_, same}
-use Rattle.rules.specs.Find.{Gap, anyGap, noGap, someGap, Wanted, Key, sameName, gapTest, glyphTest, passes, goesOn, occurs, hitsFrom}
+use Rattle.rules.specs.Bytes.{if_then_else_}
+use Rattle.rules.specs.Families.{Family}
+use Rattle.rules.specs.Find.{Gap, anyGap, noGap, someGap, Wanted, Key, Sought, sought, sameName, gapTest, glyphTest, passes, goesOn, occurs, hitsFrom}
 use Rattle.laws.proofs.Cases.{on, no, and-left, and-right, not-zero}
-use Rattle.laws_find.specs.Occurs.{keyAt, wantedAt, noKey, GapAsAsked, OccursAt, Elem, Above, Rising}
+use Rattle.laws_find.specs.Occurs.{keyAt, wantedAt, noWanted, noKey, GapAsAsked, OccursAt, Elem, Above, Rising}
+use Rattle.laws_find.proofs.Families.{Parted, name-match, match-name}
 
 -- ---- the test of one glyph
 
-pub same-eq : (xs ys : List ℕ) → same xs ys ≡ true → xs ≡ ys
-unfolding same
-same-eq [] [] h = refl
-same-eq [] (y ∷ ys) h = no h
-same-eq (x ∷ xs) [] h = no h
-same-eq (x ∷ xs) (y ∷ ys) h =
-    ap₂ (λ (a : ℕ) (l : List ℕ). a ∷ l) (eqb-true x y (and-left (eqb x y) (same xs ys) h)) (same-eq xs ys (and-right (eqb x y) (same xs ys) h))
-
-pub same-self : (xs : List ℕ) → same xs xs ≡ true
-unfolding same
-same-self [] = refl
-same-self (x ∷ xs) = rw (eq-eqb x x refl, same-self xs)
-
-pub eq-same : (xs ys : List ℕ) → xs ≡ ys → same xs ys ≡ true
-eq-same xs ys e = rw (← e) (same-self xs)
-
 -- what the test asks
-pub record Fits (o : ℕ) (q : Wanted) (k : Key) : Type 0 where
+pub record Fits (o : ℕ) (q : Sought) (k : Key) : Type 0 where
   pub page : k .ordinal ≡ o
-  pub name : k .name ≡ q .name
+  pub name : sameName (k .name) q ≡ true
   pub gap : GapAsAsked (q .gap) (k .gap)
 
 gap-asked : (g : Gap) (m : ℕ) → passes (gapTest g m) ≡ true → GapAsAsked g m
@@ -49,25 +35,32 @@ asked-gap anyGap m h = refl
 asked-gap noGap m h = rw (eq-eqb m 0 h)
 asked-gap someGap m h = rw (ne-eqb m 0 (λ e. omega arith))
 
-module _ (o : ℕ) (q : Wanted) (k : Key) where
+module _ (o : ℕ) (q : Sought) (k : Key) where
   pub test-fits : passes (glyphTest o q k) ≡ true → Fits o q k
   test-fits h =
       on (eqb (k .ordinal) o)
-      (λ e. on (same (k .name) (q .name))
-      (λ f. record { page = eqb-true _ _ e; name = same-eq _ _ f; gap = gap-asked (q .gap) (k .gap) (rw (e, f) at h) })
+      (λ e. on (sameName (k .name) q)
+      (λ f. record { page = eqb-true _ _ e; name = f; gap = gap-asked (q .gap) (k .gap) (rw (e, f) at h) })
       (λ f. no (rw (e, f) at h)))
       (λ e. no (rw e at h))
 
   pub fits-test : Fits o q k → passes (glyphTest o q k) ≡ true
-  fits-test f = rw (eq-eqb (k .ordinal) o (f .page), eq-same (k .name) (q .name) (f .name)) (asked-gap (q .gap) (k .gap) (f .gap))
+  fits-test f = rw (eq-eqb (k .ordinal) o (f .page), f .name) (asked-gap (q .gap) (k .gap) (f .gap))
 
 -- ---- a run of glyphs
 
-pub record Runs (o : ℕ) (qs : List Wanted) (ks : List Key) : Type 0 where
-  pub exist : length qs ≤ length ks
-  pub each : (j : ℕ) → j < length qs → Fits o (wantedAt qs j) (keyAt ks j)
+-- what stands where there is no glyph of the query
+abbrev pub noSought : Sought
+noSought = record { gap = anyGap; name = []; family = [] }
 
-pub goes-runs : (o : ℕ) (qs : List Wanted) (ks : List Key) → goesOn o qs ks ≡ true → Runs o qs ks
+abbrev pub soughtAt : List Sought → ℕ → Sought
+soughtAt qs j = getD qs j noSought
+
+pub record Runs (o : ℕ) (qs : List Sought) (ks : List Key) : Type 0 where
+  pub exist : length qs ≤ length ks
+  pub each : (j : ℕ) → j < length qs → Fits o (soughtAt qs j) (keyAt ks j)
+
+pub goes-runs : (o : ℕ) (qs : List Sought) (ks : List Key) → goesOn o qs ks ≡ true → Runs o qs ks
 unfolding goesOn
 goes-runs o [] ks h = record { exist = omega arith; each = λ j l. absurd (omega arith) }
 goes-runs o (q ∷ qs) [] h = no h
@@ -77,11 +70,11 @@ goes-runs o (q ∷ qs) (k ∷ ks) h =
     more : Fits o q k → Runs o qs ks → Runs o (q ∷ qs) (k ∷ ks)
     more f r = record { exist = let e : length qs ≤ length ks = r .exist in omega arith; each = each }
       where
-        each : (j : ℕ) → j < length (q ∷ qs) → Fits o (wantedAt (q ∷ qs) j) (keyAt (k ∷ ks) j)
+        each : (j : ℕ) → j < length (q ∷ qs) → Fits o (soughtAt (q ∷ qs) j) (keyAt (k ∷ ks) j)
         each zero l = f
         each (suc j) l = r .each j (le-of-suc-le-suc l)
 
-pub runs-goes : (o : ℕ) (qs : List Wanted) (ks : List Key) → Runs o qs ks → goesOn o qs ks ≡ true
+pub runs-goes : (o : ℕ) (qs : List Sought) (ks : List Key) → Runs o qs ks → goesOn o qs ks ≡ true
 unfolding goesOn
 runs-goes o [] ks r = refl
 runs-goes o (q ∷ qs) [] r = absurd (let e : suc (length qs) ≤ 0 = r .exist in omega arith)
@@ -93,7 +86,7 @@ runs-goes o (q ∷ qs) (k ∷ ks) r =
 
 -- ---- at a record number
 
-module _ (qs : List Wanted) where
+module _ (qs : List Sought) where
   occurs-runs : (l : List Key) → occurs qs l ≡ true → Runs (keyAt l 0 .ordinal) qs l
   occurs-runs [] h = no h
   occurs-runs (k ∷ ks) h = goes-runs (k .ordinal) qs (k ∷ ks) h
@@ -102,37 +95,59 @@ module _ (qs : List Wanted) where
   runs-occurs [] p r = absurd (let e : length qs ≤ 0 = r .exist in omega arith)
   runs-occurs (k ∷ ks) p r = runs-goes (k .ordinal) qs (k ∷ ks) r
 
-  module _ (ks : List Key) (i : ℕ) where
-    at : (j : ℕ) → keyAt (drop i ks) j ≡ keyAt ks (i + j)
-    at j = getD-drop i ks j noKey
+-- the glyphs of a query, with their families
+pub sought-at : (fs : List Family) (qs : List Wanted) (j : ℕ) → j < length qs → soughtAt (map (sought fs) qs) j ≡ sought fs (wantedAt qs j)
+sought-at fs [] j l = absurd (omega arith)
+sought-at fs (q ∷ qs) zero l = refl
+sought-at fs (q ∷ qs) (suc j) l = sought-at fs qs j (le-of-suc-le-suc l)
 
-    first : keyAt (drop i ks) 0 ≡ keyAt ks i
-    first = at 0 ∙ ap (keyAt ks) (add-zero i)
+pub sought-length : (fs : List Family) (qs : List Wanted) → length (map (sought fs) qs) ≡ length qs
+sought-length fs [] = refl
+sought-length fs (q ∷ qs) = ap suc (sought-length fs qs)
 
-    pub runs-at : i < length ks → Runs (keyAt (drop i ks) 0 .ordinal) qs (drop i ks) → OccursAt qs ks i
-    runs-at l r = record {
-      exist = let e : length qs ≤ length (drop i ks) = r .exist in omega (arith, length-drop i ks);
-      page = λ j m. rw (at j, first) at (r .each j m .page);
-      name = λ j m. rw (at j) at (r .each j m .name);
-      gap = λ j m. rw (at j) at (r .each j m .gap);
-    }
+module _ (fs : List Family) (qs : List Wanted) (ks : List Key) (i : ℕ) where
+  at : (j : ℕ) → keyAt (drop i ks) j ≡ keyAt ks (i + j)
+  at j = getD-drop i ks j noKey
 
-    pub at-runs : OccursAt qs ks i → Runs (keyAt (drop i ks) 0 .ordinal) qs (drop i ks)
-    at-runs o = record {
-      exist = let e : i + length qs ≤ length ks = o .exist in omega (arith, length-drop i ks);
-      each = λ j m. record { page = rw (at j, first) (o .page j m); name = rw (at j) (o .name j m); gap = rw (at j) (o .gap j m) };
-    }
+  first : keyAt (drop i ks) 0 ≡ keyAt ks i
+  first = at 0 ∙ ap (keyAt ks) (add-zero i)
+
+  fits-at : Runs (keyAt (drop i ks) 0 .ordinal) (map (sought fs) qs) (drop i ks) → (j : ℕ) → j < length qs → Fits (keyAt ks i .ordinal) (sought fs (wantedAt qs j)) (keyAt ks (i + j))
+  fits-at r j m = rw (at j, first, sought-at fs qs j m) at (r .each j (rw (sought-length fs qs) m))
+
+  pub runs-at : i < length ks → Runs (keyAt (drop i ks) 0 .ordinal) (map (sought fs) qs) (drop i ks) → OccursAt fs qs ks i
+  runs-at l r = record {
+    exist = let e : length (map (sought fs) qs) ≤ length (drop i ks) = r .exist in omega (arith, length-drop i ks, sought-length fs qs);
+    page = λ j m. fits-at r j m .page;
+    name = λ j m. name-match fs (keyAt ks (i + j) .name) (wantedAt qs j) (fits-at r j m .name);
+    gap = λ j m. fits-at r j m .gap;
+  }
+
+  pub at-runs : Parted fs → OccursAt fs qs ks i → Runs (keyAt (drop i ks) 0 .ordinal) (map (sought fs) qs) (drop i ks)
+  at-runs p o = record {
+    exist = let e : i + length qs ≤ length ks = o .exist in omega (arith, length-drop i ks, sought-length fs qs);
+    each = each;
+  }
+    where
+      each : (j : ℕ) → j < length (map (sought fs) qs) → Fits (keyAt (drop i ks) 0 .ordinal) (soughtAt (map (sought fs) qs) j) (keyAt (drop i ks) j)
+      each j l =
+          let m : j < length qs = rw (sought-length fs qs) at l in
+          rw (at j, first, sought-at fs qs j m) (record {
+            page = o .page j m;
+            name = match-name fs (keyAt ks (i + j) .name) (wantedAt qs j) p (o .name j m);
+            gap = o .gap j m;
+          })
 
 -- ---- the list
 
 -- a number of the list, counted from i
-pub record Hit (qs : List Wanted) (i n : ℕ) (ks : List Key) : Type 0 where
+pub record Hit (qs : List Sought) (i n : ℕ) (ks : List Key) : Type 0 where
   pub far : ℕ
   pub is : n ≡ i + far
   pub inside : far < length ks
   pub there : occurs qs (drop far ks) ≡ true
 
-module _ (qs : List Wanted) where
+module _ (qs : List Sought) where
   pub hit-elem : (ks : List Key) (i n : ℕ) → Hit qs i n ks → Elem n (hitsFrom qs i ks)
   unfolding hitsFrom
   hit-elem [] i n h = absurd (let l : h .far < 0 = h .inside in omega arith)
@@ -173,16 +188,22 @@ module _ (qs : List Wanted) where
   pub hits-rise : (ks : List Key) → Rising (hitsFrom qs 0 ks)
   hits-rise ks = hits-above ks 0
 
+module _ (fs : List Family) (qs : List Wanted) where
   -- no other
-  pub hits-occur : (ks : List Key) (i : ℕ) → Elem i (hitsFrom qs 0 ks) → OccursAt qs ks i
-  hits-occur ks i h = go (elem-hit ks 0 i h)
+  pub hits-occur : (ks : List Key) (i : ℕ) → Elem i (hitsFrom (map (sought fs) qs) 0 ks) → OccursAt fs qs ks i
+  hits-occur ks i h = go (elem-hit (map (sought fs) qs) ks 0 i h)
     where
-      go : Hit qs 0 i ks → OccursAt qs ks i
+      go : Hit (map (sought fs) qs) 0 i ks → OccursAt fs qs ks i
       go x =
           let e : i ≡ x .far = x .is ∙ zero-add (x .far) in
-          rw e (runs-at qs ks (x .far) (x .inside) (occurs-runs qs (drop (x .far) ks) (x .there)))
+          rw e (runs-at fs qs ks (x .far) (x .inside) (occurs-runs (map (sought fs) qs) (drop (x .far) ks) (x .there)))
 
-  -- every one
-  pub occurs-hits : (ks : List Key) (i : ℕ) → 0 < length qs → OccursAt qs ks i → Elem i (hitsFrom qs 0 ks)
-  occurs-hits ks i p o =
-      hit-elem ks 0 i (record { far = i; is = sym (zero-add i); inside = let l : i + length qs ≤ length ks = o .exist in omega arith; there = runs-occurs qs (drop i ks) p (at-runs qs ks i o) })
+  -- every one, no name being in two families
+  pub occurs-hits : (ks : List Key) (i : ℕ) → Parted fs → 0 < length qs → OccursAt fs qs ks i → Elem i (hitsFrom (map (sought fs) qs) 0 ks)
+  occurs-hits ks i p l o =
+      hit-elem (map (sought fs) qs) ks 0 i (record {
+        far = i;
+        is = sym (zero-add i);
+        inside = let e : i + length qs ≤ length ks = o .exist in omega arith;
+        there = runs-occurs (map (sought fs) qs) (drop i ks) (rw (sought-length fs qs) l) (at-runs fs qs ks i p o);
+      })

@@ -14,10 +14,10 @@ use Rattle.rules.specs.Bytes.{bytes, is, isSpace, isWhite, isNotWhite, isClear,
 use Rattle.rules.specs.Widths.{Line, withByte, linesFrom, behind, isListName}
 use Rattle.rules.specs.Find.{Gap, anyGap, noGap, someGap, Wanted, Key, Expected, firstGlyph, gapGlyph, either, Query, illFormed, wellFormed, queryEnds, withWanted, gapOf, mayAsk, queryLine, queryLines, query}
 use Rattle.laws.proofs.Cases.{on, no, and-left, and-right}
+use Rattle.laws.proofs.Same.{same-eq}
 use Rattle.laws.proofs.Clear.{clear-none, none-clear}
-use Rattle.laws_find.specs.Occurs.{AllAsked, IsAsked, keyAt, wantedAt, OccursAt}
+use Rattle.laws_find.specs.Occurs.{AllAsked, IsAsked, wantedAt}
 use Rattle.laws_find.specs.Written.{glyphLine, gapLine, gapBefore, written, White, NoWhite, GoodName, GoodNames, GoodQuery}
-use Rattle.laws_find.proofs.Exact.{same-eq}
 use Rattle.laws_find.proofs.Asked.{query-shape, shape-some}
 
 -- ---- whitespace: the rules' test
@@ -163,7 +163,7 @@ abbrev isSome : Option (List ℕ) → Bool
 isSome none = false
 isSome (some n) = true
 
-behind-front : (key t n : List ℕ) → behind key t ≡ some n → t ≡ key ++ n
+pub behind-front : (key t n : List ℕ) → behind key t ≡ some n → t ≡ key ++ n
 unfolding behind
 behind-front [] t n h = ap (behindOr []) h
 behind-front (x ∷ xs) [] n h = no (ap isSome h)
@@ -258,11 +258,11 @@ query-short q qs h =
     let x : (q ≡ written qs) × GoodQuery qs = read-written q qs h in
     rw (x .0) (omega (arith, written-length qs (x .1 .names), x .1 .few))
 
--- no glyph of it has an empty name, nor has a record at which it occurs
+-- each glyph of it has a good name
 name-good : (qs : List Wanted) (j : ℕ) → GoodNames qs → j < length qs → GoodName (wantedAt qs j .name)
 name-good [] j g l = absurd (omega arith)
 name-good (q ∷ qs) zero g l = g .0
 name-good (q ∷ qs) (suc j) g l = name-good qs j (g .1) (le-of-suc-le-suc l)
 
-pub names-some : (q : List ℕ) (qs : List Wanted) (ks : List Key) (i j : ℕ) → query q ≡ wellFormed qs → OccursAt qs ks i → j < length qs → 1 ≤ length (keyAt ks (i + j) .name)
-names-some q qs ks i j h o l = rw (o .name j l) (name-good qs j (read-written q qs h .1 .names) l .some)
+pub names-some : (q : List ℕ) (qs : List Wanted) (j : ℕ) → query q ≡ wellFormed qs → j < length qs → GoodName (wantedAt qs j .name)
+names-some q qs j h l = name-good qs j (read-written q qs h .1 .names) l

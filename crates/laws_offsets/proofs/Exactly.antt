@@ -3,7 +3,7 @@ use Prim.Native.Nat.{ℕ, zero, suc, _+_, _-_, _<_, _≤_}
 use native.Mathlib.Omega.{arith}
 use native.Mathlib.Nat.{add-zero}
 use mathlib.Core.Bool.{Bool, true, false, _||_}
-use mathlib.Core.List.{List, [], _∷_, _++_, append-assoc, append-nil}
+use mathlib.Core.List.{List, [], _∷_, _++_, append-assoc, append-nil, map}
 use mathlib.Core.Logic.{_⊎_, inl, inr}
 use mathlib.Core.Path.{_≡_, refl, sym, ap, subst, _∙_}
 use borrow.Author.Tests.{eqb-true, eqb-false, ltb-true, ltb-false, lt-ltb, le-ltb}
@@ -17,8 +17,9 @@ use Rattle.rules.specs.Scan.{letter, got, bad, Scan, command, commands}
 use Rattle.rules.specs.Widths.{linesFrom, Widths, WidthList, unsound, sound, widthList}
 use Rattle.rules.specs.State.{Env, start, Glyph, Item, refused}
 use Rattle.rules.specs.Record.{Answer, refuse, afterRows, glyphRows, itemRows, follow}
-use Rattle.rules.specs.Find.{Wanted, queryLines, Query, illFormed, wellFormed, query}
-use Rattle.rules.specs.Answers.{streamMost, isOver, read, roomFor, readInto, notSpelled, spellIf, spellWith, respell, spellingIn, respellInto, notFound, hitsIn, findAsked, findWith, find, foundIn, findInto, judgingOf, judge}
+use Rattle.rules.specs.Families.{Family, FamilyList, illGrouped, grouped, familyList}
+use Rattle.rules.specs.Find.{Wanted, sought, queryLines, Query, illFormed, wellFormed, query}
+use Rattle.rules.specs.Answers.{streamMost, isOver, read, roomFor, readInto, notSpelled, spellIf, spellWith, respell, spellingIn, respellInto, notFound, hitsIn, findAsked, findGrouped, findWith, find, foundIn, findInto, judgingOf, judge}
 use Rattle.laws.proofs.Cases.{on, no, or-true}
 use Rattle.laws_scan.proofs.Bounds.{bad-place}
 use Rattle.laws_arguments.proofs.Arguments.{pointsAtArgument}
@@ -26,10 +27,11 @@ use Rattle.laws_arguments.proofs.Names.{refusesBarred}
 use Rattle.laws_scan.proofs.Walk.{from, from-end, from-white, from-comment, from-bad, from-got}
 use Rattle.laws_find.specs.Written.{gapLine}
 use Rattle.laws_offsets.specs.Stream.{byteAt, behindAt, commandAt, FirstByte, ReadTo, from-start, past-white, past-comment, past-command, Fault, as-written, by-argument, by-name, as-done, behind-stop, StreamOffset, at-command, at-end}
-use Rattle.laws_offsets.specs.Lists.{LineStart, first-line, behind-newline, lineEnd, WrongAt, unended, wrong-line, missing, ListOffset, AskedWrongAt, empty, unended-line, wrong-asked, last-gap, QueryOffset}
-use Rattle.laws_offsets.specs.Offsets.{NotTooLong, ReadOffset, too-long, in-list, in-stream, FindOffset, one-too-long, then-in-list, then-in-query, then-in-stream, Exactly}
+use Rattle.laws_offsets.specs.Lists.{LineStart, first-line, behind-newline, lineEnd, WrongAt, unended, wrong-line, missing, ListOffset, GroupedWrongAt, unended-family, wrong-family, missing-same, FamilyOffset, AskedWrongAt, empty, unended-line, wrong-asked, last-gap, QueryOffset}
+use Rattle.laws_offsets.specs.Offsets.{ReadOffset, too-long, in-list, in-stream, NoneTooLong, FindOffset, one-too-long, then-in-list, then-in-families, then-in-query, then-in-stream, Exactly}
 use Rattle.laws_offsets.proofs.ByNumber.{start-inside}
 use Rattle.laws_offsets.proofs.Widths as W
+use Rattle.laws_offsets.proofs.Families as F
 use Rattle.laws_offsets.proofs.Query as Q
 
 -- ---- lists
@@ -94,6 +96,30 @@ list-refused list at x = go (widthList list) refl (W.list-claim list)
     go : (a : WidthList) → widthList list ≡ a → W.Claim list a → widthList list ≡ unsound at
     go (unsound p) e c = e ∙ ap unsound (one-place p at (list-order list p at c x) (list-order list at p x c))
     go (sound w) e c = absurd (not-sound w e (rw append-nil at (c .start [])) (x .here))
+
+abbrev familyPlace : FamilyList → ℕ
+familyPlace (illGrouped at) = at
+familyPlace (grouped fs) = 0
+
+family-order : (fl : List ℕ) (a b : ℕ) → FamilyOffset fl a → FamilyOffset fl b → a < b → ⊥
+family-order fl a b x y h = go (x .here)
+  where
+    go : GroupedWrongAt fl a → ⊥
+    go (unended-family i e) = omega (arith, start-behind fl a b (y .line) h, start-inside fl b (y .line))
+    go (wrong-family i f) = clash (λ t. familyPlace (familyList t)) fl a b (y .line) h (λ m. ap familyPlace (f m)) (λ m. ap familyPlace (y .first m))
+    go (missing-same e n m fs g s) = omega (arith, start-inside fl b (y .line))
+
+families-refused : (fl : List ℕ) (at : ℕ) → FamilyOffset fl at → familyList fl ≡ illGrouped at
+families-refused fl at x = go (familyList fl) refl (F.family-claim fl)
+  where
+    not-grouped : (fs : List Family) → familyList fl ≡ grouped fs → LineStart fl (length fl) → GroupedWrongAt fl at → ⊥
+    not-grouped fs e c (unended-family i l) = omega (arith, start-behind fl at (length fl) c i)
+    not-grouped fs e c (wrong-family i f) = no (ap F.isGrouped (sym (whole-by fl (lineEnd fl at + 1) (λ t. familyList t ≡ illGrouped at) f) ∙ e))
+    not-grouped fs e c (missing-same z n m gs g s) = n fs e
+
+    go : (a : FamilyList) → familyList fl ≡ a → F.Claim fl a → familyList fl ≡ illGrouped at
+    go (illGrouped p) e c = e ∙ ap illGrouped (one-place p at (family-order fl p at c x) (family-order fl at p x c))
+    go (grouped fs) e c = absurd (not-grouped fs e (rw append-nil at (c .0 .start [])) (x .here))
 
 abbrev queryPlace : Query → ℕ
 queryPlace (illFormed at) = at
@@ -236,25 +262,35 @@ module _ (s list : List ℕ) where
   unfolding judge
   judge-refused n at o = ap (judgingOf (spellWith s (widthList list))) (read-refused n at o)
 
-  module _ (q : List ℕ) where
-    -- none of the three is over its limit
-    find-short : NotTooLong s list → length q ≤ 8_192 → find s list q ≡ findWith s q (widthList list)
+  module _ (fl q : List ℕ) where
+    -- none of the four is over its limit
+    find-short : NoneTooLong s list fl q → find s list fl q ≡ findWith s fl q (widthList list)
     unfolding find
-    find-short i j = rw (le-ltb 16_777_216 (length s) (i .stream-short), le-ltb 65_536 (length list) (i .list-short), le-ltb 8_192 (length q) j)
+    find-short i =
+        rw (
+          le-ltb 16_777_216 (length s) (i .read-short .stream-short),
+          le-ltb 65_536 (length list) (i .read-short .list-short),
+          le-ltb 65_536 (length fl) (i .families-short),
+          le-ltb 8_192 (length q) (i .query-short),
+        )
 
-    find-long : (isOver streamMost s || (isOver 65_536 list || isOver 8_192 q)) ≡ true → find s list q ≡ notFound 1 0
+    find-long : (isOver streamMost s || (isOver 65_536 list || (isOver 65_536 fl || isOver 8_192 q))) ≡ true → find s list fl q ≡ notFound 1 0
     unfolding find
     find-long h = rw h
 
-    find-refused : (n at : ℕ) → FindOffset s list q n at → find s list q ≡ notFound n at
+    find-refused : (n at : ℕ) → FindOffset s list fl q n at → find s list fl q ≡ notFound n at
     find-refused _ _ (one-too-long (inl h)) = find-long (rw (lt-ltb 16_777_216 (length s) h))
     find-refused _ _ (one-too-long (inr (inl h))) = find-long (or-true (isOver streamMost s) _ (rw (lt-ltb 65_536 (length list) h)))
-    find-refused _ _ (one-too-long (inr (inr h))) = find-long (or-true (isOver streamMost s) _ (or-true (isOver 65_536 list) _ (lt-ltb 8_192 (length q) h)))
-    find-refused _ _ (then-in-list at i j o) = find-short i j ∙ ap (findWith s q) (list-refused list at o)
-    find-refused _ _ (then-in-query at w i j e o) = find-short i j ∙ ap (findWith s q) e ∙ ap (findAsked s w) (query-refused q at o)
-    find-refused _ _ (then-in-stream n at w qs i j e f o) = find-short i j ∙ ap (findWith s q) e ∙ ap (findAsked s w) f ∙ ap (hitsIn qs) (stream-refused w s n at o)
+    find-refused _ _ (one-too-long (inr (inr (inl h)))) = find-long (or-true (isOver streamMost s) _ (or-true (isOver 65_536 list) _ (rw (lt-ltb 65_536 (length fl) h))))
+    find-refused _ _ (one-too-long (inr (inr (inr h)))) =
+        find-long (or-true (isOver streamMost s) _ (or-true (isOver 65_536 list) _ (or-true (isOver 65_536 fl) _ (lt-ltb 8_192 (length q) h))))
+    find-refused _ _ (then-in-list at i o) = find-short i ∙ ap (findWith s fl q) (list-refused list at o)
+    find-refused _ _ (then-in-families at w i e o) = find-short i ∙ ap (findWith s fl q) e ∙ ap (findGrouped s w q) (families-refused fl at o)
+    find-refused _ _ (then-in-query at w fs i e g o) = find-short i ∙ ap (findWith s fl q) e ∙ ap (findGrouped s w q) g ∙ ap (findAsked s w fs) (query-refused q at o)
+    find-refused _ _ (then-in-stream n at w fs qs i e g f o) =
+        find-short i ∙ ap (findWith s fl q) e ∙ ap (findGrouped s w q) g ∙ ap (findAsked s w fs) f ∙ ap (hitsIn (map (sought fs) qs)) (stream-refused w s n at o)
 
-    finder-refused : (records hits n at : ℕ) → FindOffset s list q n at → findInto records hits s list q ≡ notFound n at
+    finder-refused : (records hits n at : ℕ) → FindOffset s list fl q n at → findInto records hits s list fl q ≡ notFound n at
     unfolding findInto
     finder-refused records hits n at o = ap (foundIn records hits) (find-refused n at o)
 
@@ -265,9 +301,10 @@ exactly = record {
   respells = respell-refused;
   rewriter = λ room s list n at o. rewriter-refused s list room n at o;
   finds = find-refused;
-  finder = λ records hits s list q n at o. finder-refused s list q records hits n at o;
+  finder = λ records hits s list fl q n at o. finder-refused s list fl q records hits n at o;
   judges = judge-refused;
   list = list-refused;
+  families = families-refused;
   query = query-refused;
   query-inside = query-inside;
 }

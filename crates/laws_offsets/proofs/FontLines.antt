@@ -9,9 +9,10 @@ use lib.ListN.{length}
 use Rattle.rules.specs.Bytes.{bytes, same}
 use Rattle.rules.specs.Widths.{behind, isListName, Font, Widths, blockDue, rightLine, isNew, lineSays, unsound, sound, widthList}
 use Rattle.laws.proofs.Cases.{on, no, and-left, and-right}
-use Rattle.laws_find.proofs.Exact.{same-eq, eq-same}
+use Rattle.laws.proofs.Same.{same-eq, eq-same}
 use Rattle.laws_find.proofs.Written.{listed-good, good-listed, OneLine, no-white-line}
-use Rattle.laws_offsets.specs.Lists.{fontText, NoNewline, NewName, MayOpen, withBlock, FontLines}
+use Rattle.laws_offsets.specs.Groups.{NoNewline}
+use Rattle.laws_offsets.specs.Lists.{fontText, NewName, MayOpen, withBlock, FontLines}
 use Rattle.laws_offsets.proofs.Lines.{longer}
 use Rattle.laws_offsets.proofs.Widths.{ReadTo, wrong-so, next-line, ends-so, list-claim}
 
@@ -40,7 +41,7 @@ test-open n fs h =
 
 -- ---- the line
 
-one-line : (n : List ℕ) → NoNewline n → OneLine n
+pub one-line : (n : List ℕ) → NoNewline n → OneLine n
 one-line [] h = tt
 one-line (b ∷ n) h = (ne-eqb b 10 (h .0), one-line n (h .1))
 

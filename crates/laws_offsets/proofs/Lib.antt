@@ -4,6 +4,9 @@ pub mod Lines
 pub mod Widths
 pub mod FontLines
 pub mod Query
+pub mod Fresh
+pub mod Families
+pub mod FamilyLines
 pub mod Offsets
 pub mod ByNumber
 pub mod Exactly

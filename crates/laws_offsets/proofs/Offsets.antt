@@ -1,7 +1,7 @@
 -- Every refusal's number is one of the table's; its reason and its offset are what the table says of that number.
-use Prim.Native.Nat.{ℕ, _<_, _≤_}
-use mathlib.Core.Bool.{true, false, _||_}
-use mathlib.Core.List.{List}
+use Prim.Native.Nat.{ℕ, _<_}
+use mathlib.Core.Bool.{Bool, true, false, _||_}
+use mathlib.Core.List.{List, map}
 use mathlib.Core.Logic.{_⊎_, inl, inr}
 use mathlib.Core.Path.{_≡_, refl, sym, subst}
 use borrow.Author.Tests.{ltb-true, ltb-false}
@@ -13,13 +13,15 @@ use Rattle.rules.specs.Scan.{commands}
 use Rattle.rules.specs.Widths.{Widths, WidthList, unsound, sound, widthList}
 use Rattle.rules.specs.State.{start}
 use Rattle.rules.specs.Record.{Answer, refuse, answer, follow}
-use Rattle.rules.specs.Find.{Wanted, Query, illFormed, wellFormed, query}
-use Rattle.rules.specs.Answers.{streamMost, isOver, readWith, read, roomFor, readInto, Spelling, notSpelled, spelled, spellIf, spellWith, respell, spellingIn, respellInto, Found, notFound, found, hitsIn, findAsked, findWith, find, foundIn, findInto, judgingOf, judge}
+use Rattle.rules.specs.Families.{Family, FamilyList, illGrouped, grouped, familyList}
+use Rattle.rules.specs.Find.{Query, illFormed, wellFormed, query, Sought, sought}
+use Rattle.rules.specs.Answers.{streamMost, isOver, readWith, read, roomFor, readInto, Spelling, notSpelled, spelled, spellIf, spellWith, respell, spellingIn, respellInto, Found, notFound, found, hitsIn, findAsked, findGrouped, findWith, find, foundIn, findInto, judgingOf, judge}
 use Rattle.laws.proofs.Cases.{on, no, if-both, if-on}
 use Rattle.laws_offsets.specs.Stream.{StreamOffset}
-use Rattle.laws_offsets.specs.Offsets.{NotTooLong, ReadOffset, too-long, in-list, in-stream, FindOffset, one-too-long, then-in-list, then-in-query, then-in-stream, OrRoom, room-aside, no-room, Offsets}
+use Rattle.laws_offsets.specs.Offsets.{NotTooLong, ReadOffset, too-long, in-list, in-stream, NoneTooLong, FindOffset, one-too-long, then-in-list, then-in-families, then-in-query, then-in-stream, OrRoom, room-aside, no-room, Offsets}
 use Rattle.laws_offsets.proofs.Stream as P
 use Rattle.laws_offsets.proofs.Widths as W
+use Rattle.laws_offsets.proofs.Families as F
 use Rattle.laws_offsets.proofs.Query as Q
 
 -- a refusal of each answer
@@ -104,44 +106,59 @@ module _ (s list : List ℕ) where
 
   -- ---- the finder
 
-  module _ (q : List ℕ) where
-    over-asked : (isOver streamMost s || (isOver 65_536 list || isOver 8_192 q)) ≡ true → (16_777_216 < length s) ⊎ (65_536 < length list) ⊎ (8_192 < length q)
+  module _ (fl q : List ℕ) where
+    abbrev isLong : Bool
+    isLong = isOver streamMost s || (isOver 65_536 list || (isOver 65_536 fl || isOver 8_192 q))
+
+    over-asked : isLong ≡ true → (16_777_216 < length s) ⊎ (65_536 < length list) ⊎ (65_536 < length fl) ⊎ (8_192 < length q)
     over-asked h =
         on (isOver streamMost s) (λ a. inl (ltb-true 16_777_216 (length s) a))
-        (λ a. on (isOver 65_536 list) (λ b. inr (inl (ltb-true 65_536 (length list) b))) (λ b. inr (inr (ltb-true 8_192 (length q) (rw (a, b) at h)))))
+        (λ a. on (isOver 65_536 list) (λ b. inr (inl (ltb-true 65_536 (length list) b)))
+        (λ b. on (isOver 65_536 fl) (λ c. inr (inr (inl (ltb-true 65_536 (length fl) c)))) (λ c. inr (inr (inr (ltb-true 8_192 (length q) (rw (a, b, c) at h)))))))
 
-    short-asked : (isOver streamMost s || (isOver 65_536 list || isOver 8_192 q)) ≡ false → NotTooLong s list × (length q ≤ 8_192)
+    short-asked : isLong ≡ false → NoneTooLong s list fl q
     short-asked h =
         on (isOver streamMost s) (λ a. no (sym (let z : true ≡ false = rw a at h in z)))
         (λ a. on (isOver 65_536 list) (λ b. no (sym (let z : true ≡ false = rw (a, b) at h in z)))
-        (λ b. (record { stream-short = ltb-false 16_777_216 (length s) a; list-short = ltb-false 65_536 (length list) b }, ltb-false 8_192 (length q) (rw (a, b) at h))))
+        (λ b. on (isOver 65_536 fl) (λ c. no (sym (let z : true ≡ false = rw (a, b, c) at h in z)))
+        (λ c. record {
+          read-short = record { stream-short = ltb-false 16_777_216 (length s) a; list-short = ltb-false 65_536 (length list) b };
+          families-short = ltb-false 65_536 (length fl) c;
+          query-short = ltb-false 8_192 (length q) (rw (a, b, c) at h);
+        })))
 
-    hits-in : (P : ℕ → ℕ → Type 0) (qs : List Wanted) (x : Answer) → AnswerIn P x → FoundIn P (hitsIn qs x)
+    abbrev Row : ℕ → ℕ → Type 0
+    Row n at = FindOffset s list fl q n at
+
+    hits-in : (P : ℕ → ℕ → Type 0) (qs : List Sought) (x : Answer) → AnswerIn P x → FoundIn P (hitsIn qs x)
     hits-in P qs (refuse n at) h = h
     hits-in P qs (answer rs xs e) h = tt
 
-    asked-in : NotTooLong s list → length q ≤ 8_192 → (w : Widths) → widthList list ≡ sound w → (x : Query) → query q ≡ x → Q.Claim q x → FoundIn (FindOffset s list q) (findAsked s w x)
-    asked-in i j w e (illFormed at) f h = then-in-query at w i j e h
-    asked-in i j w e (wellFormed qs) f h =
-        hits-in (FindOffset s list q) qs (follow w start (commands 0 0 s)) (stream-in (FindOffset s list q) w (λ n at o. then-in-stream n at w qs i j e f o))
+    asked-in : NoneTooLong s list fl q → (w : Widths) → widthList list ≡ sound w → (fs : List Family) → familyList fl ≡ grouped fs → (x : Query) → query q ≡ x → Q.Claim q x
+        → FoundIn Row (findAsked s w fs x)
+    asked-in i w e fs g (illFormed at) f h = then-in-query at w fs i e g h
+    asked-in i w e fs g (wellFormed qs) f h =
+        hits-in Row (map (sought fs) qs) (follow w start (commands 0 0 s)) (stream-in Row w (λ n at o. then-in-stream n at w fs qs i e g f o))
 
-    with-in : NotTooLong s list → length q ≤ 8_192 → (x : WidthList) → widthList list ≡ x → W.Claim list x → FoundIn (FindOffset s list q) (findWith s q x)
-    with-in i j (unsound at) e h = then-in-list at i j h
-    with-in i j (sound w) e h = asked-in i j w e (query q) refl (Q.query-claim q)
+    grouped-in : NoneTooLong s list fl q → (w : Widths) → widthList list ≡ sound w → (x : FamilyList) → familyList fl ≡ x → F.Claim fl x → FoundIn Row (findGrouped s w q x)
+    grouped-in i w e (illGrouped at) g h = then-in-families at w i e h
+    grouped-in i w e (grouped fs) g h = asked-in i w e fs g (query q) refl (Q.query-claim q)
 
-    find-in : FoundIn (FindOffset s list q) (find s list q)
+    with-in : NoneTooLong s list fl q → (x : WidthList) → widthList list ≡ x → W.Claim list x → FoundIn Row (findWith s fl q x)
+    with-in i (unsound at) e h = then-in-list at i h
+    with-in i (sound w) e h = grouped-in i w e (familyList fl) refl (F.family-claim fl)
+
+    find-in : FoundIn Row (find s list fl q)
     unfolding find
-    find-in =
-        if-on (FoundIn (FindOffset s list q)) (isOver streamMost s || (isOver 65_536 list || isOver 8_192 q)) _ _ (λ h. one-too-long (over-asked h))
-        (λ h. with-in (short-asked h .0) (short-asked h .1) (widthList list) refl (W.list-claim list))
+    find-in = if-on (FoundIn Row) isLong _ _ (λ h. one-too-long (over-asked h)) (λ h. with-in (short-asked h) (widthList list) refl (W.list-claim list))
 
-    find-into-in : (records hits : ℕ) → FoundIn (OrRoom (FindOffset s list q)) (findInto records hits s list q)
+    find-into-in : (records hits : ℕ) → FoundIn (OrRoom Row) (findInto records hits s list fl q)
     unfolding findInto
-    find-into-in records hits = go (find s list q) find-in
+    find-into-in records hits = go (find s list fl q) find-in
       where
-        go : (x : Found) → FoundIn (FindOffset s list q) x → FoundIn (OrRoom (FindOffset s list q)) (foundIn records hits x)
+        go : (x : Found) → FoundIn Row x → FoundIn (OrRoom Row) (foundIn records hits x)
         go (notFound n at) h = room-aside n at h
-        go (found rs xs) h = if-both (FoundIn (OrRoom (FindOffset s list q))) (ltb records (length rs) || ltb hits (length xs)) _ _ no-room tt
+        go (found rs xs) h = if-both (FoundIn (OrRoom Row)) (ltb records (length rs) || ltb hits (length xs)) _ _ no-room tt
 
 pub offsets : Offsets
 offsets = record {
@@ -149,7 +166,7 @@ offsets = record {
   reader = λ records entries s list n at e. subst (AnswerIn (OrRoom (ReadOffset s list))) e (into-in s list records entries);
   respells = λ s list n at e. subst (SpellingIn (OrRoom (ReadOffset s list))) e (spell-in s list);
   rewriter = λ room s list n at e. subst (SpellingIn (OrRoom (ReadOffset s list))) e (spell-into-in s list room);
-  finds = λ s list q n at e. subst (FoundIn (FindOffset s list q)) e (find-in s list q);
-  finder = λ records hits s list q n at e. subst (FoundIn (OrRoom (FindOffset s list q))) e (find-into-in s list q records hits);
+  finds = λ s list fl q n at e. subst (FoundIn (FindOffset s list fl q)) e (find-in s list fl q);
+  finder = λ records hits s list fl q n at e. subst (FoundIn (OrRoom (FindOffset s list fl q))) e (find-into-in s list fl q records hits);
   judges = λ s list n at e. subst (JudgingIn (ReadOffset s list)) e (judge-in s list);
 }

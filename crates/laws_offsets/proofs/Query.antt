@@ -10,7 +10,7 @@ use Rattle.rules.specs.Widths.{linesFrom, behind}
 use Rattle.rules.specs.Find.{Gap, Wanted, Expected, firstGlyph, gapGlyph, either, Query, illFormed, wellFormed, queryEnds, withWanted, gapOf, mayAsk, queryLine, queryLines, query}
 use Rattle.laws.proofs.Cases.{if-on, take-front, drop-front}
 use Rattle.laws_find.specs.Written.{gapLine}
-use Rattle.laws_find.proofs.Exact.{same-eq}
+use Rattle.laws.proofs.Same.{same-eq}
 use Rattle.laws_find.proofs.Written.{OneLine, line-front}
 use Rattle.laws_offsets.specs.Lists.{LineStart, first-line, AskedTo, nothing, glyphs, gap-behind, AskedWrongAt, empty, unended-line, wrong-asked, last-gap, QueryOffset}
 use Rattle.laws_offsets.proofs.Lines.{Lines, no-line, open-line, one-more, lines, open-front, longer, longer-on, longer-length, longer-start, line-inside, line-taken, open-inside, open-end}

@@ -1,4 +1,5 @@
 pub mod Stream
+pub mod Groups
 pub mod Lists
 pub mod Offsets
 pub mod Places

@@ -1,5 +1,5 @@
 -- Places of a width list and of a query, said of their bytes (document 01, "Refusal numbers and their order", 2 and 12): the "start of
--- its first wrong line". And which `font` lines a sound list may go on with.
+-- its first wrong line"; of a family list (2026-01, 14). And which `font` lines a sound list may go on with.
 use Prim.Native.Nat.{ℕ, _+_, _<_}
 use mathlib.Core.List.{List, [], _∷_, _++_}
 use mathlib.Core.Logic.{_⊎_}
@@ -7,9 +7,11 @@ use mathlib.Core.Path.{_≡_}
 use lib.ListN.{length, take, drop}
 use Rattle.rules.specs.Bytes.{bytes, oneLine}
 use Rattle.rules.specs.Widths.{Font, Widths, unsound, sound, widthList}
+use Rattle.rules.specs.Families.{Family, illGrouped, grouped, familyList}
 use Rattle.rules.specs.Find.{Wanted, illFormed, wellFormed, query}
 use Rattle.laws_find.specs.Written.{gapLine, GoodName}
 use Rattle.laws_offsets.specs.Stream.{byteAt}
+use Rattle.laws_offsets.specs.Groups.{NoNewline, sameText}
 
 -- where a line starts: at the first byte, or behind a newline
 pub data LineStart (t : List ℕ) : ℕ → Type 0 where
@@ -45,10 +47,6 @@ pub record ListOffset (list : List ℕ) (at : ℕ) : Type 0 where
 abbrev pub fontText : List ℕ → List ℕ
 fontText name = bytes "font=" ++ (name ++ bytes "\n")
 
-abbrev pub NoNewline : List ℕ → Type 0
-NoNewline [] = Unit {0}
-NoNewline (b ∷ t) = (b ≡ 10 → ⊥) × NoNewline t
-
 abbrev pub NewName : List ℕ → List Font → Type 0
 NewName n [] = Unit {0}
 NewName n (f ∷ fs) = (f .name ≡ n → ⊥) × NewName n fs
@@ -67,6 +65,28 @@ withBlock n w = record { unitwidth = w .unitwidth; fonts = record { name = n; wi
 pub record FontLines : Type 0 where
   pub given : (list : List ℕ) (w : Widths) (n : List ℕ) → widthList list ≡ sound w → MayOpen n (w .fonts) → widthList (list ++ fontText n) ≡ sound (withBlock n w)
   pub only : (list : List ℕ) (w : Widths) (n m : List ℕ) → widthList list ≡ sound w → NoNewline n → (MayOpen n (w .fonts) → ⊥) → widthList (list ++ (fontText n ++ m)) ≡ unsound (length list)
+
+-- ---- 14, 2026-01: "a wrong list is refused as 14, offset of its first wrong line or its length where a line is missing at the end"
+-- (which lists are sound, and which lines a sound list may go on with: `Groups.antt`)
+
+-- Nothing before the place is wrong: what stands there is sound, or it lacks a line at its own end.
+abbrev pub GroupedTo : List ℕ → ℕ → Type 0
+GroupedTo fl at = ((fs : List Family) × (familyList (take at fl) ≡ grouped fs)) ⊎ (familyList (take at fl) ≡ illGrouped at)
+
+-- What is wrong at the place: a line without a newline; a line that is wrong whatever stands behind it; or it is the end, and the list is
+-- not sound, but would be with one `same` line more.
+pub data GroupedWrongAt (fl : List ℕ) (at : ℕ) : Type 0 where
+  unended-family : at < length fl → lineEnd fl at ≡ length fl → GroupedWrongAt fl at
+  wrong-family : lineEnd fl at < length fl → ((m : List ℕ) → familyList (take (lineEnd fl at + 1) fl ++ m) ≡ illGrouped at) → GroupedWrongAt fl at
+  missing-same : at ≡ length fl → ((gs : List Family) → familyList fl ≡ grouped gs → ⊥) → (n : List ℕ) (fs : List Family) → GoodName n → familyList (fl ++ sameText n) ≡ grouped fs
+      → GroupedWrongAt fl at
+
+pub record FamilyOffset (fl : List ℕ) (at : ℕ) : Type 0 where
+  pub line : LineStart fl at
+  pub before : GroupedTo fl at
+  -- "its first wrong line": an empty line in its place would be the first wrong one too
+  pub first : (m : List ℕ) → familyList (take at fl ++ 10 ∷ m) ≡ illGrouped at
+  pub here : GroupedWrongAt fl at
 
 -- ---- 12: "query; start of its first wrong line (a last gap line is that line), 0 if empty"
 

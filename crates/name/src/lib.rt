@@ -12,7 +12,7 @@ fn least(a: usize, b: usize) -> usize
     if a < b { a } else { b }
 }
 
-// The part of s where a command, a query or a width list says that a name is, cut where s ends.
+// The part of s where a command, a query, a family list or a width list says that a name is, cut where s ends.
 pub fn name_at<'a>(s: &'a [u8], place: usize, len: usize) -> &'a [u8]
     ensures { λ r. ⌜ now r ≡ partOf (now (s .entry)) place len ⌝ }
 {

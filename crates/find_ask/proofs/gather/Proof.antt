@@ -7,16 +7,19 @@ use Rattle.find_ask.proofs.gather.Lts as lts
 use Rattle.find_ask.proofs.row_at.Reads as row-at-reads
 
 abbrev Inv-loop : tie.InvT-loop
-Inv-loop rows₀ places lens gaps n i₀ rows i = Gathering places lens gaps n rows i
+Inv-loop rows₀ places lens gaps owners n i₀ rows i = Gathering rows₀ places lens gaps owners n rows i
 
 abbrev μ-loop : tie.MeasureT-loop
-μ-loop rows₀ places lens gaps n i₀ rows i = 193 - i
+μ-loop rows₀ places lens gaps owners n i₀ rows i = 257 - i
 
 loop-holds : tie.Need-loop-holds Inv-loop μ-loop
 loop-holds c = search gathering
 
 row-at-requires : tie.Need-row-at-requires Inv-loop μ-loop
 row-at-requires c κs = search gathering
+
+add-rows : tie.Need-add-rows Inv-loop μ-loop
+add-rows c = search gathering
 
 mul-rows : tie.Need-mul-rows Inv-loop μ-loop
 mul-rows c = search gathering
@@ -47,6 +50,7 @@ gather-spec =
     μ-loop
     loop-holds
     row-at-requires
+    add-rows
     mul-rows
     slice-write-rows
     add-i

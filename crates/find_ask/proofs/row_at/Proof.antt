@@ -1,4 +1,5 @@
 use Rattle.find_ask.proofs.Asking.{gathering}
+use borrow.Author.Needs.{needs}
 use Rattle.find_ask.proofs.row_at.Statement.{statement}
 use Rattle.find_ask.proofs.row_at.Tie as tie
 use Rattle.find_ask.proofs.row_at.Reads as reads
@@ -34,6 +35,15 @@ returns-3 c = search gathering
 returns-4 : tie.Need-returns-4
 returns-4 c = search gathering
 
+mul-result-4 : tie.Need-mul-result-4
+mul-result-4 c = search gathering
+
+shared-slice-read-result-4 : tie.Need-shared-slice-read-result-4
+shared-slice-read-result-4 c = search gathering
+
+returns-5 : tie.Need-returns-5
+returns-5 c = search gathering
+
 pub row-at-spec : {M : Type 1} → statement M
 row-at-spec =
     tie.close
@@ -47,4 +57,7 @@ row-at-spec =
     mul-result-3
     shared-slice-read-result-3
     returns-3
-    returns-4)
+    returns-4
+    mul-result-4
+    shared-slice-read-result-4
+    returns-5)

@@ -1,4 +1,4 @@
-use Rattle.find_match.specs.Match.{wantedFrom}
+use Rattle.find_match.specs.Match.{soughtFrom}
 use Rattle.find_count.specs.Count.{turnsLeft}
 use Rattle.find_count.proofs.Counting.{Counting, countings}
 use Rattle.find_count.proofs.count.Statement.{statement}
@@ -11,10 +11,10 @@ use Rattle.find_count.proofs.occurs_at.Reads as occurs-at-reads
 use Rattle.find_outline.proofs.standing.Reads as standing-reads
 
 abbrev Inv-loop : tie.InvT-loop
-Inv-loop s q rows glyphs m₀ n₀ m n = Counting s (wantedFrom glyphs q rows 0) m n
+Inv-loop s q fl rows glyphs m₀ n₀ m n = Counting s (soughtFrom glyphs q fl rows 0) m n
 
 abbrev μ-loop : tie.MeasureT-loop
-μ-loop s q rows glyphs m₀ n₀ m n = turnsLeft s m
+μ-loop s q fl rows glyphs m₀ n₀ m n = turnsLeft s m
 
 standing-requires : tie.Need-standing-requires Inv-loop μ-loop
 standing-requires c κs = search countings

@@ -8,10 +8,10 @@ use Rattle.find_count.proofs.following.Reads as following-reads
 use Rattle.find_count.proofs.stands.Reads as stands-reads
 
 abbrev Inv-loop : tie.InvT-loop
-Inv-loop s q rows glyphs page m₀ j₀ m j = Going s q rows glyphs page m₀ m j
+Inv-loop s q fl rows glyphs page m₀ j₀ m j = Going s q fl rows glyphs page m₀ m j
 
 abbrev μ-loop : tie.MeasureT-loop
-μ-loop s q rows glyphs page m₀ j₀ m j = glyphs - j
+μ-loop s q fl rows glyphs page m₀ j₀ m j = glyphs - j
 
 loop-holds : tie.Need-loop-holds Inv-loop μ-loop
 loop-holds c = search goings
