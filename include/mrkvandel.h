@@ -1,11 +1,12 @@
 /*
- * Mrkvandel: the proved reader, finder and rewriter of troff intermediate output, and the judging of a stream, as C functions.
+ * Mrkvandel: the proved reader, finder and rewriter of troff intermediate output, the judging of a stream and the first name of a
+ * glyph, as C functions.
  *
- * The library is target/lib/libmrkvandel.a, for x86-64 and the System V calling convention. The script ./build makes it from four
+ * The library is target/lib/libmrkvandel.a, for x86-64 and the System V calling convention. The script ./build makes it from five
  * static libraries, one for each function, which `rt staticlib` proves and writes. Proved is what the functions answer and leave in
  * the rows and the buffer; the compiler behind the proof, the way into C and this header are tested (routines/). The source of these
- * declarations is the src/lib.rt of crates/capi_read, capi_find, capi_respell and capi_judge, for the answers that of
- * crates/capi_answers, and for records, entries and colours that of crates/rules. What the answers mean is said in full by the
+ * declarations is the src/lib.rt of crates/capi_read, capi_find, capi_respell, capi_judge and capi_first_name, for the answers that
+ * of crates/capi_answers, and for records, entries and colours that of crates/rules. What the answers mean is said in full by the
  * definitions in crates/rules/specs.
  *
  * Of every function here:
@@ -16,7 +17,7 @@
  *   - No row may overlap the other row or an input: so a stream cannot be rewritten in its place. The inputs may overlap each
  *     other. They are not changed.
  *   - Nothing else is asked of a caller: any bytes and any lengths will do, and the rows may hold anything.
- *   - Nothing is allocated and nothing is kept between calls. A call needs up to 80 KiB of the stack.
+ *   - Nothing is allocated and nothing is kept between calls. A call needs up to 100 KiB of the stack.
  *
  * For C11 and C++11, and later.
  */
@@ -33,9 +34,10 @@ extern "C" {
 #define MRKVANDEL_ASSERT(holds, message) _Static_assert(holds, message)
 #endif
 
-/* The most bytes of a stream, of a width list and of a query; more is refused as 1. */
+/* The most bytes of a stream, of a width list, of a family list and of a query; more is refused as 1. */
 #define MRKVANDEL_STREAM_LIMIT 16777216
 #define MRKVANDEL_LIST_LIMIT 65536
+#define MRKVANDEL_FAMILIES_LIMIT 65536
 #define MRKVANDEL_QUERY_LIMIT 8192
 
 /* The most bytes of a spelling; more is refused as 13. */
@@ -44,13 +46,14 @@ extern "C" {
 /*
  * Refusal numbers. The offset of a refusal is that of the first byte of the command at fault, counted from 0 in the stream,
  * unless it is said otherwise. A refusal with a smaller number comes first at one command, but 16 stands between 6 and 7; in all, 1
- * comes first, then 2, then 12, then the first command at fault, and 13 last, when nothing else is against the inputs. The reader and the
- * rewriter, which have no query, answer 1 to 11, 13 or 16, the finder 1 to 13 or 16, and judging, which is lent no room, 1 to 11 or 16.
+ * comes first, then 2, then 14, then 12, then the first command at fault, and 13 last, when nothing else is against the inputs. The reader
+ * and the rewriter, which have neither family list nor query, answer 1 to 11, 13 or 16, the finder 1 to 14 or 16, and judging, which is
+ * lent no room, 1 to 11 or 16. The first name of a glyph is never refused.
  */
 enum {
     /* no refusal */
     MRKVANDEL_ACCEPTED = 0,
-    /* the stream is over 16,777,216 bytes, the width list over 65,536 or the query over 8,192; offset 0 */
+    /* the stream is over 16,777,216 bytes, the width list or the family list over 65,536 or the query over 8,192; offset 0 */
     MRKVANDEL_TOO_LONG = 1,
     /* the width list is wrong; offset in the list: the start of its first wrong line (one without a newline is wrong, and so is one
        with a barred byte in its name, see 16), or its length where a line is missing at the end */
@@ -82,6 +85,9 @@ enum {
     MRKVANDEL_QUERY = 12,
     /* a row or the buffer is too small, or the spelling is over 16,777,216 bytes; offset 0 */
     MRKVANDEL_NO_ROOM = 13,
+    /* the family list is wrong; offset in the list: the start of its first wrong line (one without a newline is wrong, and so is one
+       with a barred byte in its name, see 16), or its length where a `same` line is missing at the end; see the finder */
+    MRKVANDEL_FAMILY_LIST = 14,
     /* a barred byte, 0 to 8, 11 to 31 or 127, in a name or a glyph: of `c`, `C`, two digits, `x T`, `x F` and `x f`, and in a `t` or `u`
        word. The text of `x X`, the rest of an `x` word and comments may hold any byte */
     MRKVANDEL_BARRED_BYTE = 16
@@ -139,7 +145,7 @@ typedef struct mrkvandel_find_result {
     size_t offset;    /* of a refusal, see above; 0 where nothing is refused */
     size_t records;   /* how many records were written; 0 in a refusal */
     size_t hits;      /* how many hits were written; 0 in a refusal */
-    uint32_t refusal; /* 0 where nothing is refused, else the number of the refusal: 1 to 13 or 16 */
+    uint32_t refusal; /* 0 where nothing is refused, else the number of the refusal: 1 to 14 or 16 */
 } mrkvandel_find_result;
 
 /* The rewriter's answer: 24 bytes, the last four of them without meaning. */
@@ -156,9 +162,26 @@ typedef struct mrkvandel_judge_result {
     size_t entries;   /* how many entries it has; 0 in a refusal */
     size_t spelling;  /* how many bytes its spelling has, MRKVANDEL_SPELLING_LIMIT + 1 where they are over that limit; 0 in a
                          refusal */
-    uint32_t refusal; /* 0 where nothing is refused, else the number of the refusal: 1 to 11 */
+    uint32_t refusal; /* 0 where nothing is refused, else the number of the refusal: 1 to 11 or 16 */
     uint32_t pages;   /* how many `p` the stream has; 0 in a refusal */
 } mrkvandel_judge_result;
+
+/* Where the first name of a glyph stands. */
+enum {
+    /* nowhere: it is the empty part */
+    MRKVANDEL_NO_NAME = 0,
+    /* in the stream: it is the glyph's own name, which is in no family, or the family list is wrong or too long */
+    MRKVANDEL_IN_STREAM = 1,
+    /* in the family list: it is the first name of the family that the glyph's name is in */
+    MRKVANDEL_IN_FAMILIES = 2
+};
+
+/* The first name of a glyph, a part of the stream or of the family list: 24 bytes, the last four of them without meaning. */
+typedef struct mrkvandel_first_name_result {
+    size_t place;    /* where the name begins, in the stream or in the family list, counted from 0; 0 for the empty part */
+    size_t len;      /* how many bytes it has; 0 for the empty part */
+    uint32_t source; /* where it stands: one of the three numbers above */
+} mrkvandel_first_name_result;
 
 MRKVANDEL_ASSERT(sizeof(size_t) == 8, "the library is for x86-64");
 MRKVANDEL_ASSERT(sizeof(mrkvandel_record) == 40, "a record has 40 bytes");
@@ -168,6 +191,7 @@ MRKVANDEL_ASSERT(sizeof(mrkvandel_read_result) == 80, "the reader's answer has 8
 MRKVANDEL_ASSERT(sizeof(mrkvandel_find_result) == 32, "the finder's answer has 32 bytes");
 MRKVANDEL_ASSERT(sizeof(mrkvandel_respell_result) == 24, "the rewriter's answer has 24 bytes");
 MRKVANDEL_ASSERT(sizeof(mrkvandel_judge_result) == 40, "the answer of judging has 40 bytes");
+MRKVANDEL_ASSERT(sizeof(mrkvandel_first_name_result) == 24, "the first name has 24 bytes");
 
 /*
  * Reads a stream with its width list. `records` gets one record for each glyph, `entries` one entry for each `D` or `x` command,
@@ -183,14 +207,20 @@ mrkvandel_read_result mrkvandel_read(const uint8_t *stream, size_t stream_len, c
                                      mrkvandel_record *records, size_t records_len, mrkvandel_entry *entries, size_t entries_len);
 
 /*
- * Finds a run of glyphs in a stream with its width list. `records` gets one record for each glyph, as the reader gives it; `hits`
- * gets the number of each record at which the query occurs, counted from 0, each once and in rising order.
+ * Finds a run of glyphs in a stream with its width list, by a family list. `records` gets one record for each glyph, as the reader
+ * gives it; `hits` gets the number of each record at which the query occurs, counted from 0, each once and in rising order.
+ *
+ * A family is a set of names that stand for one letter, such as `'e`, `u0065_0301` and the byte \xE9. A family list has, for each
+ * family, a line `name=NAME` with its first name and behind it 1 to 7 lines `same=NAME` with the others, each ended by a newline: at
+ * most 256 families, no name twice in the list. It is judged behind the width list (2) and before the query (12), and is 14 where it
+ * is wrong, 1 where it has over 65,536 bytes. The empty list (length 0) is sound and has no families: then names match only themselves.
  *
  * A query has lines `glyph=NAME` and `gap=any`, each ended by a newline: 1 to 64 glyph lines, the first and the last line a glyph
- * line, never two gap lines together. A NAME has 1 to 64 bytes, none of them a space, tab or newline.
- * It occurs at record i where the records i, i + 1, ... are there for all its glyph lines, in their order, and
+ * line, never two gap lines together. In a family list and in a query a NAME has 1 to 64 bytes, none of them a space, a tab, a newline or barred (16).
+ * A query occurs at record i where the records i, i + 1, ... are there for all its glyph lines, in their order, and
  *   - have the same `ordinal`: a run does not cross a `p`, even if both pages carry one number;
- *   - have the names of the lines, byte for byte: so a glyph set by `N`, which has no name, is in no run;
+ *   - have the names of the lines: each the same bytes as the line's, or in one family with it. A glyph set by `N`, which has no name,
+ *     is in no run;
  *   - have, each after the first, `gap` 1 where a gap line stands before its glyph line, else 0; the first may have either.
  * How the records are placed, their fonts and sizes play no part. Occurrences may overlap.
  *
@@ -201,8 +231,8 @@ mrkvandel_read_result mrkvandel_read(const uint8_t *stream, size_t stream_len, c
  * There are at most as many hits as records, and a stream of n bytes has at most n records. (The latter tested, not proved.)
  */
 mrkvandel_find_result mrkvandel_find(const uint8_t *stream, size_t stream_len, const uint8_t *widths, size_t widths_len,
-                                     const uint8_t *query, size_t query_len, mrkvandel_record *records, size_t records_len,
-                                     uint32_t *hits, size_t hits_len);
+                                     const uint8_t *families, size_t families_len, const uint8_t *query, size_t query_len,
+                                     mrkvandel_record *records, size_t records_len, uint32_t *hits, size_t hits_len);
 
 /*
  * Rewrites a stream, with its width list, in the house spelling. `out` gets the spelling:
@@ -235,12 +265,28 @@ mrkvandel_respell_result mrkvandel_respell(const uint8_t *stream, size_t stream_
  * unless the spelling is over its limit; and how much room that is.
  *
  * Accepted (refusal 0): the reader accepts it with a row of `records` records and one of `entries` entries, the finder with a row of
- * `records` records and one of as many hits (where nothing is against the query), the rewriter with a buffer of `spelling` bytes, or,
- * where `spelling` is MRKVANDEL_SPELLING_LIMIT + 1, with none: then the spelling is over its limit, and the rewriter refuses it as 13.
- * With less room the reader and the rewriter refuse it as 13. (All proved: `Judge` and `NoRoom` in crates/demands, `Judged` in crates/laws_answers.)
- * Refused: the reader and the rewriter refuse it with the same number and offset, whatever the room. It is 1 to 11 or 16, never 12 or 13.
+ * `records` records and one of as many hits (where nothing is against the family list and the query), the rewriter with a buffer of
+ * `spelling` bytes, or, where `spelling` is MRKVANDEL_SPELLING_LIMIT + 1, with none: then the spelling is over its limit, and the
+ * rewriter refuses it as 13. With less room the reader and the rewriter refuse it as 13. (All proved: `Judge` and `NoRoom` in
+ * crates/demands, `Judged` in crates/laws_answers.)
+ * Refused: the reader and the rewriter refuse it with the same number and offset, whatever the room. It is 1 to 11 or 16, never 12,
+ * 13 or 14.
  */
 mrkvandel_judge_result mrkvandel_judge(const uint8_t *stream, size_t stream_len, const uint8_t *widths, size_t widths_len);
+
+/*
+ * The first name of a glyph, for a record with this `place` and `len`: the name by which a screen shows the letter, whichever of its
+ * names the stream has. Nothing is copied: the answer is a part of the stream or of the family list.
+ *   - Where the name, the `len` bytes at `place` in the stream, is in a family: that family's first name, as it stands in the family
+ *     list (MRKVANDEL_IN_FAMILIES), also where the name is that first name itself.
+ *   - Where it is in no family: the name itself, as it stands in the stream (MRKVANDEL_IN_STREAM).
+ *   - Where `len` is 0, as for a glyph set by `N`, or the name does not lie whole in the stream: the empty part (MRKVANDEL_NO_NAME).
+ * A family list that is wrong, or over 65,536 bytes, counts here as an empty one; nothing is refused. The stream need not be one
+ * that the reader accepts: only the bytes at `place` are looked at. The whole list is looked through at each call, so ask once for each
+ * different name.
+ */
+mrkvandel_first_name_result mrkvandel_first_name(const uint8_t *stream, size_t stream_len, const uint8_t *families,
+                                                 size_t families_len, size_t place, size_t len);
 
 #ifdef __cplusplus
 }

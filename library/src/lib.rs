@@ -2,12 +2,18 @@
 //! `../include/mrkvandel.h`, which says what each holds, and its functions over slices. Structs of which
 //! rows are made have no padding, so that fields that are equal are bytes that are.
 
-/// The most bytes of a stream, of a width list and of a query; more is refused as 1.
+/// The most bytes of a stream, of a width list, of a family list and of a query; more is refused as 1.
 pub const STREAM_LIMIT: usize = 16_777_216;
 pub const LIST_LIMIT: usize = 65_536;
+pub const FAMILIES_LIMIT: usize = 65_536;
 pub const QUERY_LIMIT: usize = 8_192;
 /// The most bytes of a spelling; more is refused as 13.
 pub const SPELLING_LIMIT: usize = 16_777_216;
+
+/// Where a first name stands: nowhere, in the stream, in the family list.
+pub const NO_NAME: u32 = 0;
+pub const IN_STREAM: u32 = 1;
+pub const IN_FAMILIES: u32 = 2;
 
 /// A glyph record.
 #[repr(C)]
@@ -93,10 +99,30 @@ pub struct JudgeResult {
     pub pages: u32,
 }
 
+/// The first name of a glyph: where it stands.
+#[repr(C)]
+#[derive(Clone, Copy, Debug, Default, PartialEq, Eq)]
+pub struct FirstNameResult {
+    pub place: usize,
+    pub len: usize,
+    pub source: u32,
+}
+
 impl Record {
     /// The glyph's name, a part of the stream.
     pub fn name<'a>(&self, stream: &'a [u8]) -> &'a [u8] {
         &stream[self.place as usize..][..self.len as usize]
+    }
+}
+
+impl FirstNameResult {
+    /// The name itself, a part of the stream or of the family list that were asked with.
+    pub fn name<'a>(&self, stream: &'a [u8], families: &'a [u8]) -> &'a [u8] {
+        match self.source {
+            IN_STREAM => &stream[self.place..][..self.len],
+            IN_FAMILIES => &families[self.place..][..self.len],
+            _ => &[],
+        }
     }
 }
 
@@ -139,6 +165,8 @@ extern "C" {
         stream_len: usize,
         widths: *const u8,
         widths_len: usize,
+        families: *const u8,
+        families_len: usize,
         query: *const u8,
         query_len: usize,
         records: *mut Record,
@@ -155,6 +183,15 @@ extern "C" {
         out: *mut u8,
         out_len: usize,
     ) -> RespellResult;
+
+    fn mrkvandel_first_name(
+        stream: *const u8,
+        stream_len: usize,
+        families: *const u8,
+        families_len: usize,
+        place: usize,
+        len: usize,
+    ) -> FirstNameResult;
 }
 
 /// Judges a stream with its width list, room aside.
@@ -182,10 +219,12 @@ pub fn read(stream: &[u8], widths: &[u8], records: &mut [Record], entries: &mut 
     }
 }
 
-/// Finds a query in a stream with its width list; the records and the hits go into the rows.
+/// Finds a query in a stream with its width list, by a family list, empty where none is used; the
+/// records and the hits go into the rows.
 pub fn find(
     stream: &[u8],
     widths: &[u8],
+    families: &[u8],
     query: &[u8],
     records: &mut [Record],
     hits: &mut [u32],
@@ -197,6 +236,8 @@ pub fn find(
             stream.len(),
             widths.as_ptr(),
             widths.len(),
+            families.as_ptr(),
+            families.len(),
             query.as_ptr(),
             query.len(),
             records.as_mut_ptr(),
@@ -219,5 +260,13 @@ pub fn respell(stream: &[u8], widths: &[u8], out: &mut [u8]) -> RespellResult {
             out.as_mut_ptr(),
             out.len(),
         )
+    }
+}
+
+/// The first name, by a family list, of a glyph whose name has this place and length in the stream.
+pub fn first_name(stream: &[u8], families: &[u8], place: usize, len: usize) -> FirstNameResult {
+    // SAFETY: pointers and lengths are those of slices, which are only read
+    unsafe {
+        mrkvandel_first_name(stream.as_ptr(), stream.len(), families.as_ptr(), families.len(), place, len)
     }
 }

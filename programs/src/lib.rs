@@ -134,7 +134,12 @@ fn line_for_people(refusal: Refusal, files: &[File]) -> String {
         _ => files[0],
     };
     let (line, column) = line_and_column(bytes, refusal.offset);
-    format!("{name}: line {line}, column {column}: {}\n", reason(refusal.number))
+    format!("{name}: line {line}, column {column}: {}\n", small_reason(refusal.number))
+}
+
+/// The second program's reason; of 1 without the family list, which these programs do not take.
+fn small_reason(number: u8) -> String {
+    reason(number).replace("a list over", "the list over")
 }
 
 /// The first file over its limit.

@@ -3,13 +3,16 @@
 use crate::expected::{self, Expected, ExpectedFinding, ExpectedSpelling};
 use crate::measure::{lengths, Answer, Seen};
 use crate::rows::{Item, Lent};
-use crate::{proved, Entry, FindResult, JudgeResult, ReadResult, Record, RespellResult, Search};
+use crate::{
+    proved, Entry, FindResult, FirstNameResult, JudgeResult, Naming, ReadResult, Record, RespellResult,
+    Search,
+};
 use second::generate::random::Random;
 use second::refusal::Rooms;
 
 /// A call of a proved routine: its answer, and the rows that it was lent. The other row is that of
 /// the entries, of the hits or of the spelling's bytes; a rewriter is lent no records, and has none here.
-/// Judging is lent neither.
+/// Judging is lent neither, nor is a first name.
 pub struct Call<A, T> {
     pub answer: A,
     pub records: Lent<Record>,
@@ -64,6 +67,11 @@ pub fn call_judge(stream: &[u8], list: &[u8]) -> Call<JudgeResult, u8> {
     Call::new([0, 0], &mut Random::new(0), |_, _| proved::judge(stream, list))
 }
 
+/// Calls for a first name.
+pub fn call_first_name(naming: Naming) -> Call<FirstNameResult, u8> {
+    Call::new([0, 0], &mut Random::new(0), |_, _| proved::first_name(naming))
+}
+
 /// Reads once and compares; the answer of both.
 pub fn reading(
     stream: &[u8],
@@ -84,9 +92,9 @@ pub fn finding(search: Search, room: [usize; 2], random: &mut Random) -> Result<
     let call = call_find(search, room, random);
     let [records, hits] = room;
     let expected = expected::find(search, Rooms { records, hits, ..Rooms::default() });
-    let Search { stream, list, query } = search;
+    let Search { stream, list, families, query } = search;
     let inputs = || {
-        [("stream", stream), ("list", list), ("query", query)]
+        [("stream", stream), ("list", list), ("families", families), ("query", query)]
             .map(|(name, bytes)| shown(name, bytes))
             .join("\n")
     };
@@ -114,6 +122,15 @@ pub fn judging(stream: &[u8], list: &[u8]) -> Result<JudgeResult, String> {
     let inputs = || format!("{}\n{}", shown("stream", stream), shown("list", list));
     let message = |message| format!("{message}\n{}", inputs());
     call.compare(&expected::judge(stream, list)).map(|()| call.answer).map_err(message)
+}
+
+/// Asks for a first name once and compares; the answer of both.
+pub fn naming(naming: Naming) -> Result<FirstNameResult, String> {
+    let call = call_first_name(naming);
+    let Naming { stream, families, place, len } = naming;
+    let inputs = || format!("{}\n{}", shown("stream", stream), shown("families", families));
+    let message = |message| format!("{message}\nplace {place}, length {len}\n{}", inputs());
+    call.compare(&expected::first_name(naming)).map(|()| call.answer).map_err(message)
 }
 
 pub(crate) fn shown(name: &str, bytes: &[u8]) -> String {

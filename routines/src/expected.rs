@@ -1,12 +1,17 @@
 //! What the second program answers, and what it puts into the rows, in the library's structs.
 
-use crate::{Colour, Entry, FindResult, JudgeResult, ReadResult, Record, RespellResult, Search};
+use crate::{
+    Colour, Entry, FindResult, FirstNameResult, JudgeResult, Naming, ReadResult, Record, RespellResult,
+    Search,
+};
+use library::{IN_FAMILIES, IN_STREAM, NO_NAME};
+use second::bytes::Name;
 use second::refusal::{Refusal, Rooms, NO_ROOM, SPELLING_LIMIT};
-use second::{Found, Reading};
+use second::{Found, Part, Reading};
 
 /// An answer and what the rows must hold from their start; behind it they are as before. The other
 /// row holds entries (the reader's), hits (the finder's) or the bytes of the spelling (the
-/// rewriter's, which has no records). Judging has neither row.
+/// rewriter's, which has no records). Judging has neither row, nor has a first name.
 #[derive(Clone, Debug, PartialEq, Eq)]
 pub struct Expected<A, T> {
     pub answer: A,
@@ -18,6 +23,7 @@ pub type ExpectedReading = Expected<ReadResult, Entry>;
 pub type ExpectedFinding = Expected<FindResult, u32>;
 pub type ExpectedSpelling = Expected<RespellResult, u8>;
 pub type ExpectedJudging = Expected<JudgeResult, u8>;
+pub type ExpectedNaming = Expected<FirstNameResult, u8>;
 
 /// The reader, for rows of the lengths that `rooms` says.
 pub fn read(stream: &[u8], list: &[u8], rooms: Rooms) -> ExpectedReading {
@@ -58,7 +64,7 @@ fn refused(refusal: Refusal) -> ExpectedReading {
 
 /// The finder, for rows of the lengths that `rooms` says.
 pub fn find(search: Search, rooms: Rooms) -> ExpectedFinding {
-    match second::find(search.stream, search.list, search.query, rooms) {
+    match second::find(search.stream, search.list, search.families, search.query, rooms) {
         Ok(found) => found_all(&found),
         Err(Refusal { number, offset }) => {
             let answer = FindResult { offset, refusal: number.into(), ..FindResult::default() };
@@ -111,6 +117,18 @@ fn spelling_length(stream: &[u8], list: &[u8]) -> usize {
         Err(Refusal { number: NO_ROOM, .. }) => SPELLING_LIMIT + 1,
         Err(refusal) => panic!("an accepted stream is not spelt: {refusal:?}"),
     }
+}
+
+/// The first name for a record: nothing is lent and nothing refused.
+pub fn first_name(naming: Naming) -> ExpectedNaming {
+    let Naming { stream, families, place, len } = naming;
+    let (Name { place, length }, source) = match second::first_part(stream, families, place, len) {
+        Part::Empty => (Name { place: 0, length: 0 }, NO_NAME),
+        Part::Stream(name) => (name, IN_STREAM),
+        Part::Families(name) => (name, IN_FAMILIES),
+    };
+    let answer = FirstNameResult { place, len: length, source };
+    Expected { answer, records: Vec::new(), others: Vec::new() }
 }
 
 fn colour(colour: second::Colour) -> Colour {

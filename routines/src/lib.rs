@@ -13,4 +13,7 @@ pub mod shape;
 pub mod text;
 pub mod types;
 
-pub use types::{Colour, Entry, FindResult, JudgeResult, ReadResult, Record, RespellResult, Search};
+pub use types::{
+    Colour, Entry, FindResult, FirstNameResult, JudgeResult, Naming, ReadResult, Record, RespellResult,
+    Search,
+};

@@ -1,7 +1,7 @@
 //! How long the rows are that a routine is lent, against what its input needs; and the counts of
 //! what was seen.
 
-use crate::{FindResult, JudgeResult, ReadResult, RespellResult};
+use crate::{FindResult, FirstNameResult, JudgeResult, ReadResult, RespellResult};
 use second::generate::random::Random;
 use std::fmt::Debug;
 use std::io::Write;
@@ -82,6 +82,19 @@ impl Answer for JudgeResult {
 
     fn refusal(&self) -> u32 {
         self.refusal
+    }
+
+    fn counts(&self) -> [usize; 2] {
+        [0, 0]
+    }
+}
+
+/// A first name is lent nothing, and refused never.
+impl Answer for FirstNameResult {
+    const MEASURES: &'static [Measure] = &[];
+
+    fn refusal(&self) -> u32 {
+        0
     }
 
     fn counts(&self) -> [usize; 2] {

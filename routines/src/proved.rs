@@ -1,15 +1,23 @@
 //! The proved code, through the library `target/lib/libmrkvandel.a`.
 
 use crate::text::{found_text, glyphs_text};
-use crate::{Entry, FindResult, Record, Search};
+use crate::{Entry, FindResult, FirstNameResult, Naming, Record, Search};
+use library::{IN_FAMILIES, IN_STREAM, NO_NAME};
+use second::bytes::Name;
 use second::refusal::{Refusal, Rooms, SPELLING_LIMIT};
 use second::vectors::Program;
+use second::Part;
 
 pub use library::{judge, read, respell};
 
-/// Finds a query in a stream with its width list; the records and the hits go into the rows.
+/// Finds a query in a stream with its lists; the records and the hits go into the rows.
 pub fn find(search: Search, records: &mut [Record], hits: &mut [u32]) -> FindResult {
-    library::find(search.stream, search.list, search.query, records, hits)
+    library::find(search.stream, search.list, search.families, search.query, records, hits)
+}
+
+/// Where the first name for a record stands.
+pub fn first_name(naming: Naming) -> FirstNameResult {
+    library::first_name(naming.stream, naming.families, naming.place, naming.len)
 }
 
 /// The library as a program that answers texts, for the vectors.
@@ -40,13 +48,33 @@ impl Program for Proved {
         }
     }
 
-    fn find(&self, stream: &[u8], list: &[u8], query: &[u8], rooms: Rooms) -> Result<Vec<u8>, Refusal> {
+    fn find(
+        &self,
+        stream: &[u8],
+        list: &[u8],
+        families: &[u8],
+        query: &[u8],
+        rooms: Rooms,
+    ) -> Result<Vec<u8>, Refusal> {
         let mut records = vec![Record::default(); rooms.records.min(stream.len()).min(MOST)];
         let mut hits = vec![0; rooms.hits.min(stream.len()).min(MOST)];
-        let answer = find(Search { stream, list, query }, &mut records, &mut hits);
+        let answer = find(Search { stream, list, families, query }, &mut records, &mut hits);
         match answer.refusal {
             0 => Ok(found_text(&answer, &hits)),
             number => Err(refusal(number, answer.offset)),
+        }
+    }
+
+    /// The part by the answer's numbers; `None` where they name none.
+    fn first_name(&self, stream: &[u8], families: &[u8], place: usize, length: usize) -> Option<Part> {
+        let FirstNameResult { place, len, source } =
+            first_name(Naming { stream, families, place, len: length });
+        let name = Name { place, length: len };
+        match source {
+            NO_NAME => (place == 0 && len == 0).then_some(Part::Empty),
+            IN_STREAM => Some(Part::Stream(name)),
+            IN_FAMILIES => Some(Part::Families(name)),
+            _ => None,
         }
     }
 }

@@ -23,6 +23,28 @@ pub fn list() -> Vec<u8> {
     list
 }
 
+/// The name that is the last one of every family list, the empty one aside: a letter that the streams have
+/// often.
+pub const LAST_NAME: &[u8] = b"t";
+
+/// A family list of so many families of so many names. The names of the streams' longer glyphs are among
+/// them, and the last one is `LAST_NAME`; no other stands in a stream.
+pub fn families(count: usize, size: usize) -> Vec<u8> {
+    let mut list = Vec::new();
+    for family in 0..count {
+        for member in 0..size {
+            let key: &[u8] = if member == 0 { b"name=" } else { b"same=" };
+            let name = match NAMES.get(family) {
+                _ if (family + 1, member + 1) == (count, size) => LAST_NAME.to_vec(),
+                Some(name) if member == 1 => name.to_vec(),
+                _ => format!("u{family:04X}_030{member}").into_bytes(),
+            };
+            list.extend([key, &name, b"\n"].concat());
+        }
+    }
+    list
+}
+
 /// A stream of at most `most` bytes, and hardly less.
 pub fn stream(most: usize, random: &mut Random) -> Vec<u8> {
     let mut stream = HEAD.to_vec();

@@ -1,12 +1,14 @@
 //! The comparison itself: whatever is wrong, anywhere, is reported.
 
-use routines::agree::{call_find, call_judge, call_read, call_respell, Call};
+use routines::agree::{call_find, call_first_name, call_judge, call_read, call_respell, Call};
 use routines::expected::{self, Expected};
 use routines::kept::keeps_all;
 use routines::measure::Answer;
 use routines::proved::Proved;
 use routines::rows::{Item, Lent};
-use routines::{Entry, FindResult, JudgeResult, ReadResult, Record, RespellResult, Search};
+use routines::{
+    Entry, FindResult, FirstNameResult, JudgeResult, Naming, ReadResult, Record, RespellResult, Search,
+};
 use second::generate::random::Random;
 use second::refusal::Rooms;
 use second::vectors::{run_all, BODY_HEAD, BODY_TAIL, SAMPLE_LIST};
@@ -27,8 +29,16 @@ fn read(body: &[u8]) -> Case<ReadResult, Entry> {
 
 fn find(body: &[u8]) -> Case<FindResult, u32> {
     let stream = [BODY_HEAD, body, BODY_TAIL].concat();
-    let search = Search { stream: &stream, list: SAMPLE_LIST, query: b"glyph=b\n" };
+    let search = Search { stream: &stream, list: SAMPLE_LIST, families: FAMILIES, query: b"glyph=c\n" };
     (call_find(search, ROOM, &mut Random::new(0)), expected::find(search, ROOMS))
+}
+
+/// The first name for the bytes at this place of the body, so many of them.
+fn first_name(place: usize, len: usize) -> Case<FirstNameResult, u8> {
+    let stream = [BODY_HEAD, BODY, BODY_TAIL].concat();
+    let place = BODY_HEAD.len() + place;
+    let naming = Naming { stream: &stream, families: FAMILIES, place, len };
+    (call_first_name(naming), expected::first_name(naming))
 }
 
 fn respell(body: &[u8]) -> Case<RespellResult, u8> {
@@ -57,6 +67,8 @@ fn report<A: Answer, T: Item>(
 }
 
 const BODY: &[u8] = b"tab\nDFr 1 2 3\n";
+/// The query's glyph is `b` by its family.
+const FAMILIES: &[u8] = b"name=c\nsame=b\n";
 /// How many bytes its spelling has.
 const SPELT: usize = 84;
 
@@ -115,6 +127,17 @@ fn a_wrong_answer_is_reported() {
         |answer| answer.pages += 1,
     ];
     wrong.into_iter().for_each(|edit| assert_answer_is_reported(|| judge(BODY), edit));
+    // in no family, in one, and of no bytes
+    for (place, len, source) in [(1, 1, 1), (2, 1, 2), (1, 0, 0)] {
+        assert_eq!(first_name(place, len).0.answer.source, source);
+        let wrong: [fn(&mut FirstNameResult); 4] = [
+            |answer| answer.place += 1,
+            |answer| answer.len += 1,
+            |answer| answer.source = (answer.source + 1) % 3,
+            |answer| answer.source = (answer.source + 2) % 3,
+        ];
+        wrong.into_iter().for_each(|edit| assert_answer_is_reported(|| first_name(place, len), edit));
+    }
 }
 
 /// Each number of a record.
@@ -306,6 +329,17 @@ fn a_wrong_vector_is_reported() {
         "body ca\nquery glyph=a\nfinder ok",
         "body ca\nquery glyph=a\\n\nhits 0\nfinder ok",
         "body ca\nquery glyph=a\\n\nhits 1\nrecords 1\nfinder refused 13 0",
+        "body ca\nfamilies name=a\\nsame=b\\n\nquery glyph=b\\n\nfind found 1 0\\n",
+        "body ca\nfamilies name=c\\nsame=b\\n\nquery glyph=b\\n\nfind hit 0\\nfound 1 1\\n",
+        "families name=a\\nsame=b\\n\njudged refused 14 0",
+        "families name=a\\n\njudged ok",
+        "families name=a\\n\njudged refused 14 0",
+        "families name=a\\n\njudged refused 12 7",
+        "body ca\nfamilies name=b\\nsame=a\\n\nfirst 1 1 stream a",
+        "body ca\nfamilies name=b\\nsame=a\\n\nfirst 1 1 families 12 a",
+        "body ca\nfamilies name=b\\nsame=a\\n\nfirst 1 1 empty",
+        "body cb\nfamilies name=a\\nsame=c\\n\nfirst 1 1 families 5 a",
+        "body cb\nfamilies name=a\\nsame=c\\n\nfirst 1 1 empty",
         "body ca\nspelt c b\\nx s\\n",
         "body ca\nspelt c a\\nx s",
         "body ca\nspelling 10\nrewriter ok",

@@ -1,21 +1,22 @@
-/* The library called from C, and from C++: `find STREAM WIDTHS QUERY` prints the text of FORMATS. */
+/* The library called from C, and from C++: `find STREAM WIDTHS FAMILIES QUERY` prints the text of FORMATS. */
 #include "files.h"
 #include "mrkvandel.h"
 
 int main(int count, char **words) {
-    if (count != 4) {
-        fputs("usage: find STREAM WIDTHS QUERY\n", stderr);
+    if (count != 5) {
+        fputs("usage: find STREAM WIDTHS FAMILIES QUERY\n", stderr);
         return 2;
     }
-    size_t stream_len, widths_len, query_len;
+    size_t stream_len, widths_len, families_len, query_len;
     uint8_t *stream = read_file(words[1], &stream_len);
     uint8_t *widths = read_file(words[2], &widths_len);
-    uint8_t *query = read_file(words[3], &query_len);
+    uint8_t *families = read_file(words[3], &families_len);
+    uint8_t *query = read_file(words[4], &query_len);
     /* no stream has more records than bytes, nor more hits than records */
     mrkvandel_record *records = (mrkvandel_record *)room(stream_len, sizeof *records);
     uint32_t *hits = (uint32_t *)room(stream_len, sizeof *hits);
-    mrkvandel_find_result answer = mrkvandel_find(stream, stream_len, widths, widths_len, query, query_len,
-                                                  records, stream_len, hits, stream_len);
+    mrkvandel_find_result answer = mrkvandel_find(stream, stream_len, widths, widths_len, families, families_len,
+                                                  query, query_len, records, stream_len, hits, stream_len);
     if (answer.refusal != MRKVANDEL_ACCEPTED) {
         printf("refused %u %zu\n", answer.refusal, answer.offset);
         return 1;

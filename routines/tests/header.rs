@@ -1,11 +1,14 @@
 //! `include/mrkvandel.h` and this package's structs agree with each other and with the Rattle source,
 //! and the library can be called from C. It needs a C and a C++ compiler, `cc` and `c++`.
 
-use routines::{Colour, Entry, FindResult, JudgeResult, ReadResult, Record, RespellResult};
+use routines::{Colour, Entry, FindResult, FirstNameResult, JudgeResult, ReadResult, Record, RespellResult};
+use second::generate::first::{first_call, FirstCall};
 use second::generate::{case, search::search, Case};
 use second::print::{found_text, glyphs_text, refusal_text};
 use second::refusal::{self, Refusal, Rooms};
+use second::{first_part, Part};
 use std::any::type_name_of_val;
+use std::ffi::{OsStr, OsString};
 use std::mem::{offset_of, size_of, size_of_val};
 use std::path::{Path, PathBuf};
 use std::process::{Command, Output};
@@ -44,7 +47,7 @@ macro_rules! layout {
 }
 
 /// The structs, each with its fields in their order.
-fn layouts() -> [Layout; 7] {
+fn layouts() -> [Layout; 8] {
     [
         layout!(Record as mrkvandel_record: ordinal page h v font size place len index gap),
         layout!(Entry as mrkvandel_entry: command letter scheme ordinal place len h v),
@@ -53,10 +56,11 @@ fn layouts() -> [Layout; 7] {
         layout!(FindResult as mrkvandel_find_result: offset records hits refusal),
         layout!(RespellResult as mrkvandel_respell_result: offset len refusal),
         layout!(JudgeResult as mrkvandel_judge_result: offset records entries spelling refusal pages),
+        layout!(FirstNameResult as mrkvandel_first_name_result: place len source),
     ]
 }
 
-const VALUES: [(&str, usize); 19] = [
+const VALUES: [(&str, usize); 24] = [
     ("ACCEPTED", 0),
     ("TOO_LONG", refusal::TOO_LONG as usize),
     ("WIDTH_LIST", refusal::WIDTH_LIST as usize),
@@ -71,11 +75,16 @@ const VALUES: [(&str, usize); 19] = [
     ("NO_STOP", refusal::NO_STOP as usize),
     ("QUERY", refusal::QUERY as usize),
     ("NO_ROOM", refusal::NO_ROOM as usize),
+    ("FAMILY_LIST", refusal::FAMILY_LIST as usize),
     ("BARRED_BYTE", refusal::BARRED_BYTE as usize),
     ("STREAM_LIMIT", refusal::STREAM_LIMIT),
     ("LIST_LIMIT", refusal::LIST_LIMIT),
+    ("FAMILIES_LIMIT", refusal::LIST_LIMIT),
     ("QUERY_LIMIT", refusal::QUERY_LIMIT),
     ("SPELLING_LIMIT", refusal::SPELLING_LIMIT),
+    ("NO_NAME", library::NO_NAME as usize),
+    ("IN_STREAM", library::IN_STREAM as usize),
+    ("IN_FAMILIES", library::IN_FAMILIES as usize),
 ];
 
 fn in_repository(path: &str) -> PathBuf {
@@ -88,7 +97,7 @@ fn text_of(path: &str) -> String {
 
 /// The Rattle source of the exported functions, with their answers.
 fn exporting_source() -> String {
-    ["answers", "read", "find", "respell", "judge"]
+    ["answers", "read", "find", "respell", "judge", "first_name"]
         .map(|name| text_of(&format!("crates/capi_{name}/src/lib.rt")))
         .concat()
 }
@@ -119,7 +128,7 @@ fn temporary(name: &str) -> PathBuf {
     Path::new(env!("CARGO_TARGET_TMPDIR")).join(name)
 }
 
-fn output_of(program: &Path, words: &[&Path]) -> Output {
+fn output_of<T: AsRef<OsStr>>(program: &Path, words: &[T]) -> Output {
     Command::new(program)
         .args(words)
         .output()
@@ -154,7 +163,7 @@ fn the_header_has_the_same_layout() {
     for (compiler, name) in [(C, "layout-c"), (CPLUSPLUS, "layout-cplusplus")] {
         let program = temporary(name);
         compile(compiler, "layout.c", &program);
-        let output = output_of(&program, &[]);
+        let output = output_of::<&str>(&program, &[]);
         assert_eq!(String::from_utf8_lossy(&output.stdout), layout_text(), "{name}");
     }
 }
@@ -188,9 +197,12 @@ fn c_type(name: &str) -> String {
     }
 }
 
-/// A parameter `NAME: &[T]` or `NAME: &mut [T]` as C has it.
+/// A parameter `NAME: &[T]`, `NAME: &mut [T]` or `NAME: usize` as C has it.
 fn c_parameter(parameter: &str) -> String {
     let (name, kind) = parameter.split_once(": ").expect("a parameter has a type");
+    if kind == "usize" {
+        return format!("size_t {name}");
+    }
     let (kind, constant) = kind.strip_prefix("&mut ").map_or((&kind[1..], "const "), |kind| (kind, ""));
     let item = c_type(kind.trim_matches(['[', ']']));
     format!("{constant}{item} *{name}, size_t {name}_len")
@@ -216,7 +228,7 @@ fn the_header_declares_what_the_source_exports() {
     let header = text_of("include/mrkvandel.h");
     let plain = header.split_whitespace().collect::<Vec<_>>().join(" ");
     let declarations = c_declarations(&exporting_source());
-    assert_eq!(declarations.len(), 4, "each crate exports one function");
+    assert_eq!(declarations.len(), 5, "each crate exports one function");
     for declaration in &declarations {
         assert!(plain.contains(declaration), "the header has no\n{declaration}");
     }
@@ -229,27 +241,38 @@ fn the_header_declares_what_the_source_exports() {
 /// What the second program prints for a case.
 type Text = fn(&Case) -> Result<Vec<u8>, Refusal>;
 
+/// What a program is given of a case: the stream, the width list and, for the finder, more.
+type Inputs = fn(&Case) -> Vec<&[u8]>;
+
+const STREAM_AND_LIST: Inputs = |case| vec![&case.stream, &case.list];
+
 /// A program over header and library, given the files of these inputs of a case, prints what the
 /// second program prints; how many cases are accepted.
-fn count_agreed(compiler: [&str; 4], name: &str, cases: fn(u64) -> Case, inputs: usize, text: Text) -> u32 {
+fn count_agreed(compiler: [&str; 4], name: &str, cases: fn(u64) -> Case, inputs: Inputs, text: Text) -> u32 {
     let label = format!("{name}-{}", compiler[3]);
     let program = temporary(&label);
     compile(compiler, &format!("{name}.c"), &program);
-    let files: Vec<PathBuf> = (0..inputs).map(|place| temporary(&format!("{label}-{place}"))).collect();
-    let words: Vec<&Path> = files.iter().map(PathBuf::as_path).collect();
     let mut accepted = 0;
     for seed in 0..100 {
         let case = cases(seed);
-        for (file, bytes) in files.iter().zip([&case.stream, &case.list, &case.query]) {
-            std::fs::write(file, bytes).expect("an input can be written");
-        }
+        let files = put_files(&label, &inputs(&case));
         let expected = text(&case);
         accepted += u32::from(expected.is_ok());
         let expected = expected.unwrap_or_else(refusal_text).escape_ascii().to_string();
-        let printed = output_of(&program, &words).stdout.escape_ascii().to_string();
+        let printed = output_of(&program, &files).stdout.escape_ascii().to_string();
         assert_eq!(printed, expected, "{label}, seed {seed}");
     }
     accepted
+}
+
+/// Writes inputs to files of their own.
+fn put_files(label: &str, inputs: &[&[u8]]) -> Vec<PathBuf> {
+    let put = |(place, bytes): (usize, &&[u8])| {
+        let file = temporary(&format!("{label}-{place}"));
+        std::fs::write(&file, bytes).expect("an input can be written");
+        file
+    };
+    inputs.iter().enumerate().map(put).collect()
 }
 
 #[test]
@@ -259,7 +282,7 @@ fn the_reader_can_be_called_from_c_and_cplusplus() {
         Ok(glyphs_text(&case.stream, &reading))
     };
     for compiler in [C, CPLUSPLUS] {
-        let accepted = count_agreed(compiler, "glyphs", case, 2, text);
+        let accepted = count_agreed(compiler, "glyphs", case, STREAM_AND_LIST, text);
         assert!((10..90).contains(&accepted), "{accepted} of 100 streams are accepted");
     }
 }
@@ -267,11 +290,12 @@ fn the_reader_can_be_called_from_c_and_cplusplus() {
 #[test]
 fn the_finder_can_be_called_from_c_and_cplusplus() {
     let text: Text = |case| {
-        let found = second::find(&case.stream, &case.list, &case.query, Rooms::default())?;
+        let found = second::find(&case.stream, &case.list, &case.families, &case.query, Rooms::default())?;
         Ok(found_text(&found))
     };
+    let inputs: Inputs = |case| vec![&case.stream, &case.list, &case.families, &case.query];
     for compiler in [C, CPLUSPLUS] {
-        let accepted = count_agreed(compiler, "find", search, 3, text);
+        let accepted = count_agreed(compiler, "find", search, inputs, text);
         assert!((10..90).contains(&accepted), "{accepted} of 100 searches are accepted");
     }
     let has_hit = |seed: &u64| text(&search(*seed)).is_ok_and(|text| text.starts_with(b"hit"));
@@ -282,7 +306,7 @@ fn the_finder_can_be_called_from_c_and_cplusplus() {
 fn the_rewriter_can_be_called_from_c_and_cplusplus() {
     let text: Text = |case| second::respell(&case.stream, &case.list, Rooms::default());
     for compiler in [C, CPLUSPLUS] {
-        let accepted = count_agreed(compiler, "respell", case, 2, text);
+        let accepted = count_agreed(compiler, "respell", case, STREAM_AND_LIST, text);
         assert!((10..90).contains(&accepted), "{accepted} of 100 streams are accepted");
     }
 }
@@ -296,7 +320,42 @@ fn judging_can_be_called_from_c_and_cplusplus() {
         Ok(format!("accepted {records} {entries} {} {}\n", reading.pages, spelling.len()).into_bytes())
     };
     for compiler in [C, CPLUSPLUS] {
-        let accepted = count_agreed(compiler, "judge", case, 2, text);
+        let accepted = count_agreed(compiler, "judge", case, STREAM_AND_LIST, text);
         assert!((10..90).contains(&accepted), "{accepted} of 100 streams are accepted");
+    }
+}
+
+/// What `first_name.c` prints for a call.
+fn part_text(call: &FirstCall) -> Vec<u8> {
+    let FirstCall { stream, families, place, length } = call;
+    let part = first_part(stream, families, *place, *length);
+    let head = match part {
+        Part::Empty => "nowhere".to_string(),
+        Part::Stream(name) => format!("stream {} {} ", name.place, name.length),
+        Part::Families(name) => format!("families {} {} ", name.place, name.length),
+    };
+    [head.as_bytes(), part.of(stream, families), b"\n"].concat()
+}
+
+#[test]
+fn a_first_name_can_be_asked_for_from_c_and_cplusplus() {
+    for compiler in [C, CPLUSPLUS] {
+        let label = format!("first_name-{}", compiler[3]);
+        let program = temporary(&label);
+        compile(compiler, "first_name.c", &program);
+        let mut parts = [0; 3];
+        for seed in 0..100 {
+            let call = first_call(seed);
+            let files = put_files(&label, &[&call.stream, &call.families]);
+            let numbers = [call.place, call.length].map(|number| OsString::from(number.to_string()));
+            let words: Vec<OsString> =
+                files.into_iter().map(PathBuf::into_os_string).chain(numbers).collect();
+            let expected = part_text(&call);
+            let first = [b'n', b's', b'f'].iter().position(|&letter| expected[0] == letter);
+            parts[first.expect("one of three words")] += 1;
+            let printed = output_of(&program, &words).stdout.escape_ascii().to_string();
+            assert_eq!(printed, expected.escape_ascii().to_string(), "{label}, seed {seed}");
+        }
+        assert!(parts.iter().all(|&count| count >= 15), "nowhere, in the stream, in the list: {parts:?}");
     }
 }

@@ -12,7 +12,8 @@ use second::vectors::{self, BODY_HEAD, SAMPLE_LIST};
 
 const INPUTS: u64 = 100_000;
 
-/// A query that is found wherever the glyph `a` stands.
+/// A query that is found wherever the glyph `a` stands or, by its family, the glyph `b`.
+const FAMILIES: &[u8] = b"name=b\nsame=a\n";
 const QUERY: &[u8] = b"glyph=a\n";
 
 /// Judges; both programs agree.
@@ -25,7 +26,7 @@ fn judged(stream: &[u8], list: &[u8]) -> JudgeResult {
 fn run(stream: &[u8], list: &[u8], random: &mut Random) -> Result<JudgeResult, String> {
     let answer = agree::judging(stream, list)?;
     let JudgeResult { offset, records, entries, spelling, refusal, pages } = answer;
-    let search = Search { stream, list, query: QUERY };
+    let search = Search { stream, list, families: FAMILIES, query: QUERY };
     let read = agree::reading(stream, list, [records, entries], random)?;
     let found = agree::finding(search, [records, records], random)?;
     let respelt = agree::respelling(stream, list, spelling, random)?;
@@ -65,11 +66,14 @@ impl Seen {
         self.0[answer.refusal as usize] += 1;
     }
 
-    /// Accepted, and each refusal but 12 and 13, at least so often; those never.
+    /// Accepted, and each refusal but 12, 13 and 14, at least so often; those never. Half as often will do
+    /// for 1: of the few generated inputs that are too long most are family lists and queries, which
+    /// judging does not take.
     fn assert_all(&self, label: &str, least: u64) {
         say(&format!("{label}: {:?} accepted and refused 1 to 16", self.0));
         for (number, &times) in self.0.iter().enumerate() {
             let is_due = number < 12 || number == 16;
+            let least = if number == 1 { least.div_ceil(2) } else { least };
             assert!(if is_due { times >= least } else { times == 0 }, "{label}: {number} came {times} times");
         }
     }

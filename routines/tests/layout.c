@@ -77,6 +77,10 @@ static void print_colour_and_answers(void) {
     NUMBER(mrkvandel_judge_result, spelling);
     NUMBER(mrkvandel_judge_result, refusal);
     NUMBER(mrkvandel_judge_result, pages);
+    SIZE(mrkvandel_first_name_result);
+    NUMBER(mrkvandel_first_name_result, place);
+    NUMBER(mrkvandel_first_name_result, len);
+    NUMBER(mrkvandel_first_name_result, source);
 }
 
 static void print_values(void) {
@@ -94,11 +98,16 @@ static void print_values(void) {
     VALUE(MRKVANDEL_NO_STOP);
     VALUE(MRKVANDEL_QUERY);
     VALUE(MRKVANDEL_NO_ROOM);
+    VALUE(MRKVANDEL_FAMILY_LIST);
     VALUE(MRKVANDEL_BARRED_BYTE);
     VALUE(MRKVANDEL_STREAM_LIMIT);
     VALUE(MRKVANDEL_LIST_LIMIT);
+    VALUE(MRKVANDEL_FAMILIES_LIMIT);
     VALUE(MRKVANDEL_QUERY_LIMIT);
     VALUE(MRKVANDEL_SPELLING_LIMIT);
+    VALUE(MRKVANDEL_NO_NAME);
+    VALUE(MRKVANDEL_IN_STREAM);
+    VALUE(MRKVANDEL_IN_FAMILIES);
 }
 
 int main(void) {

@@ -1,8 +1,10 @@
 //! Checks: what a definition must give on a case, as an antt declaration.
 
+use second::generate::first::FirstCall;
 use second::print::refusal_text;
-use second::vectors::{Case, Program, Routine, Second};
-use second::{read, Rooms};
+use second::vectors::{self, Case, Program, Routine, Second};
+use second::{first_part, read, Part, Rooms};
+use std::collections::HashSet;
 
 /// The room that stands for unlimited; no case within the bounds needs more.
 const UNLIMITED: usize = 1_000_000_000;
@@ -27,10 +29,10 @@ pub struct Check {
 /// The bound in records of a stream; far more exceed the prover's steps, however few its bytes.
 const RECORD_LIMIT: usize = 3_000;
 
-/// Whether stream, list and query have at most `limit` bytes each, and the stream has few records.
+/// Whether stream, lists and query have at most `limit` bytes each, and the stream has few records.
 pub fn is_within(case: &Case, limit: usize) -> bool {
     let query = case.query.as_deref().unwrap_or_default();
-    [&case.stream, &case.list, query].iter().all(|input| input.len() <= limit)
+    [&case.stream, &case.list, &case.families, query].iter().all(|input| input.len() <= limit)
         && record_count(case) <= RECORD_LIMIT
 }
 
@@ -39,26 +41,80 @@ fn record_count(case: &Case) -> usize {
     read(&case.stream, &case.list, Rooms::default()).map_or(0, |reading| reading.records.len())
 }
 
-/// The checks of every case: reader and rewriter and, with a query, the finder.
+/// The checks of every case: reader and rewriter and, with a query, the finder; and each first name. What
+/// an earlier case asks too is not asked again: many family lists are judged with one stream.
 pub fn checks(cases: &[Case]) -> Vec<Check> {
     let mut checks = Vec::new();
     for (number, case) in cases.iter().enumerate() {
         checks.push(check(number, case, Routine::Reader));
         checks.push(check(number, case, Routine::Rewriter));
-        if case.query.is_some() {
-            checks.push(check(number, case, Routine::Finder));
+        checks.extend(family_checks(number, case));
+    }
+    let mut asked = HashSet::new();
+    checks.retain(|check| asked.insert(check.computed.clone()));
+    checks
+}
+
+/// The checks of a case that its family list bears on: the finder's, with a query, and each first name.
+pub fn family_checks(number: usize, case: &Case) -> Vec<Check> {
+    let finder = case.query.as_ref().map(|_| check(number, case, Routine::Finder));
+    finder.into_iter().chain(first_checks(number, case)).collect()
+}
+
+/// The checks of the first names that a case asks for, as it has them.
+fn first_checks(number: usize, case: &Case) -> Vec<Check> {
+    let mut checks = Vec::new();
+    for check in &case.checks {
+        if let vectors::Check::First { place, length, part } = *check {
+            let name = format!("first{number}x{}", checks.len());
+            checks.push(first_check(name, &case.name, &case.stream, &case.families, (place, length), part));
         }
     }
     checks
 }
 
+/// The check of a generated call for a first name, with the second program's answer.
+pub fn call_check(seed: u64, call: &FirstCall) -> Check {
+    let FirstCall { stream, families, place, length } = call;
+    let part = first_part(stream, families, *place, *length);
+    first_check(format!("call{seed}"), &format!("seed {seed}"), stream, families, (*place, *length), part)
+}
+
+/// Where the definition has a first name, and its bytes.
+fn first_check(
+    name: String,
+    case: &str,
+    stream: &[u8],
+    families: &[u8],
+    (place, length): (usize, usize),
+    part: Part,
+) -> Check {
+    let (s, f) = (bytes(stream), bytes(families));
+    Check {
+        name,
+        case: case.to_string(),
+        computed: format!("partText {s} {f} (firstName {s} {f} {place} {length})"),
+        expected: part_text(part, part.of(stream, families)),
+    }
+}
+
+/// `nowhere`, `stream PLACE LENGTH NAME` or `families PLACE LENGTH NAME`, with a newline.
+fn part_text(part: Part, name: &[u8]) -> Vec<u8> {
+    let head = match part {
+        Part::Empty => "nowhere".to_string(),
+        Part::Stream(name) => format!("stream {} {} ", name.place, name.length),
+        Part::Families(name) => format!("families {} {} ", name.place, name.length),
+    };
+    [head.as_bytes(), name, b"\n"].concat()
+}
+
 /// The check of one routine: the definition's text is the second program's.
 fn check(number: usize, case: &Case, routine: Routine) -> Check {
     let query = case.query.as_deref().unwrap_or_default();
-    let (stream, list, rooms) = (&case.stream, &case.list, case.rooms);
+    let (stream, list, families, rooms) = (&case.stream, &case.list, &case.families, case.rooms);
     let [records, entries, hits, spelling] =
         [rooms.records, rooms.entries, rooms.hits, rooms.spelling].map(|room| room.min(UNLIMITED));
-    let (s, l, q) = (bytes(stream), bytes(list), bytes(query));
+    let (s, l, f, q) = (bytes(stream), bytes(list), bytes(families), bytes(query));
     let (word, computed, answer, behind) = match routine {
         Routine::Reader => (
             "reader",
@@ -74,8 +130,8 @@ fn check(number: usize, case: &Case, routine: Routine) -> Check {
         ),
         Routine::Finder => (
             "finder",
-            format!("findText (findInto {records} {hits} {s} {l} {q})"),
-            Second.find(stream, list, query, rooms),
+            format!("findText (findInto {records} {hits} {s} {l} {f} {q})"),
+            Second.find(stream, list, families, query, rooms),
             [OLD_RECORD, OLD_HIT].concat(),
         ),
     };

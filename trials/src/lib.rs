@@ -6,5 +6,5 @@ pub mod check;
 pub mod repository;
 pub mod text;
 
-pub use check::{checks, is_within, Check};
+pub use check::{call_check, checks, family_checks, is_within, Check};
 pub use repository::{prove, Verdict};

@@ -16,8 +16,8 @@ use mathlib.Core.List.{List, [], _∷_}
 use lib.Dec.{T}
 use Rattle.rules.specs.Bytes.{bytes, same}
 use Rattle.rules.specs.Rules.{rules}
-use Rattle.rules.specs.Answers.{readInto, respellInto, findInto}
-use Rattle.trial.specs.Text.{readText, spellText, findText, texts}
+use Rattle.rules.specs.Answers.{readInto, respellInto, findInto, firstName}
+use Rattle.trial.specs.Text.{readText, spellText, findText, partText, texts}
 
 ";
 

@@ -19,10 +19,12 @@ use Rattle.rules.specs.declared.Respelling.{Respelling}
 use Rattle.rules.specs.declared.Respelling.the-variants as S
 use Rattle.rules.specs.declared.Finding.{Finding}
 use Rattle.rules.specs.declared.Finding.the-variants as F
+use Rattle.rules.specs.declared.NamePart.{NamePart}
+use Rattle.rules.specs.declared.NamePart.the-variants as N
 use Rattle.rules.specs.Bytes.{if_then_else_, bytes}
 use Rattle.rules.specs.Record.{Answer}
 use Rattle.rules.specs.House.{decimal}
-use Rattle.rules.specs.Answers.{Spelling, Found, readingOf, recordsOver, entriesOver, respellingOf, bufferOver, findingOf, recordsFound, hitsOver}
+use Rattle.rules.specs.Answers.{Spelling, Found, readingOf, recordsOver, entriesOver, respellingOf, bufferOver, findingOf, recordsFound, hitsOver, bytesOf}
 
 abbrev pub sp : List ℕ → List ℕ → List ℕ
 sp a b = a ++ 32 ∷ b
@@ -127,7 +129,16 @@ findText f =
     let is = hitsOver (replicate (hitsIn (findingOf f) + 1) 9) f in
     findingText is (findingOf f) ++ (glyphTexts [] (drop (foundIn (findingOf f)) rs) ++ hitTexts (drop (hitsIn (findingOf f)) is))
 
+-- where a first name stands, and its bytes
+abbrev pub partHead : NamePart → List ℕ
+partHead N.Nowhere = bytes "nowhere"
+partHead (N.InStream place len) = sp (bytes "stream") (sp (decimal place) (decimal len)) ++ 32 ∷ []
+partHead (N.InFamilies place len) = sp (bytes "families") (sp (decimal place) (decimal len)) ++ 32 ∷ []
+
+unfoldable pub partText : List ℕ → List ℕ → NamePart → List ℕ
+partText s fl p = partHead p ++ (bytesOf s fl p ++ 10 ∷ [])
+
 unfoldable pub texts : Unit {0}
-unfolding parts glyphTexts entryTexts hitTexts readText spellText findText
+unfolding parts glyphTexts entryTexts hitTexts readText spellText findText partText
 texts = tt
 "#;

@@ -1,12 +1,14 @@
 //! The speed of the proved reader, finder and rewriter beside that of the second program, in one run, on
-//! streams of the shape that troff writes. README.md says what each line measures.
+//! streams of the shape that troff writes; and of first names. README.md says what each line measures.
 
-use routines::{expected, proved, shape, Entry, Record, Search};
+use routines::{expected, proved, shape, Entry, Naming, Record, Search};
+use second::families::{read_families, FAMILY_LIMIT, MEMBER_LIMIT};
 use second::find::{occurrences, read_query};
 use second::generate::random::Random;
 use second::read::Walk;
 use second::refusal::{Rooms, SPELLING_LIMIT};
 use second::widths::read_list;
+use std::hint::black_box;
 use std::mem::size_of;
 use std::time::{Duration, Instant};
 
@@ -15,8 +17,15 @@ const SIZES: [usize; 4] = [1_000_000, 4_000_000, 8_000_000, 16_000_000];
 const ROUNDS: usize = 7;
 /// Beyond 4 MB the spelling of such a stream is over 01's limit of 16,777,216 bytes.
 const MOST_TO_RESPELL: usize = 4_000_000;
-/// One that occurs, and one whose last glyph no stream of this shape has.
-const QUERIES: [&[u8]; 2] = [b"glyph=t\nglyph=h\nglyph=e\n", b"glyph=t\nglyph=h\nglyph=Q\n"];
+/// One that occurs, which begins with the letter that is in a family; one that begins with a letter that is
+/// in none; and one whose last glyph no stream of this shape has.
+const IN_A_FAMILY: (&str, &[u8]) = ("the", b"glyph=t\nglyph=h\nglyph=e\n");
+const IN_NO_FAMILY: (&str, &[u8]) = ("and", b"glyph=a\nglyph=n\nglyph=d\n");
+const NOWHERE: (&str, &[u8]) = ("thQ", b"glyph=t\nglyph=h\nglyph=Q\n");
+/// How many families the family lists have, and how many names each: none, a few, as many as there may be.
+const LISTS: [(usize, usize); 3] = [(0, 0), (12, 3), (FAMILY_LIMIT, MEMBER_LIMIT)];
+/// How often a first name is asked for in one run.
+const CALLS: usize = 100;
 
 /// A name, and how long one run takes. Those of the second program, whose names say so, come last.
 type Runner = (&'static str, fn(&mut Rows, Search) -> Duration);
@@ -45,6 +54,7 @@ fn main() {
     for (seed, size) in SIZES.into_iter().enumerate() {
         measure(&shape::stream(size, &mut Random::new(seed as u64)), &list);
     }
+    measure_first_names();
 }
 
 /// Measures reader and finder on one stream and prints what came.
@@ -55,12 +65,17 @@ fn measure(stream: &[u8], list: &[u8]) {
     let size = megabytes(stream.len());
     println!("\n{size:.2} MB: {records} records, {entries} entries, rows of {memory:.1} MB");
     println!(" read");
-    race(&READERS, &mut rows, Search { stream, list, query: b"" });
-    for query in QUERIES {
-        let search = Search { stream, list, query };
-        rows.search_once(search);
-        println!(" find, {} hits", rows.due);
-        race(&FINDERS, &mut rows, search);
+    race(&READERS, &mut rows, Search { stream, list, families: b"", query: b"" });
+    for (count, size) in LISTS {
+        let families = &shape::families(count, size);
+        let queries: &[_] =
+            if count == 0 { &[IN_A_FAMILY, IN_NO_FAMILY, NOWHERE] } else { &[IN_A_FAMILY, IN_NO_FAMILY] };
+        for (word, query) in queries {
+            let search = Search { stream, list, families, query };
+            rows.search_once(search);
+            println!(" find {word} by {count} families, {} hits", rows.due);
+            race(&FINDERS, &mut rows, search);
+        }
     }
     if stream.len() > MOST_TO_RESPELL {
         let answer = proved::respell(stream, list, &mut vec![0; SPELLING_LIMIT]);
@@ -78,24 +93,53 @@ fn measure_respelling(stream: &[u8], list: &[u8], rows: &mut Rows) -> Vec<u8> {
     let is_spelt = if rows.out == stream { "a stream that is spelt so already" } else { "the stream" };
     let (size, length) = (megabytes(stream.len()), megabytes(rows.out.len()));
     println!(" respell {is_spelt}, {size:.2} MB, to {length:.2} MB");
-    race(&REWRITERS, rows, Search { stream, list, query: b"" });
+    race(&REWRITERS, rows, Search { stream, list, families: b"", query: b"" });
     rows.out.clone()
+}
+
+/// Measures first names by a full list, which is read anew for each, and prints what came.
+fn measure_first_names() {
+    let families = shape::families(FAMILY_LIMIT, MEMBER_LIMIT);
+    let size = families.len();
+    println!(
+        "\nfirst names, {CALLS} of them, by {FAMILY_LIMIT} families in {size} bytes; MB/s of the family list"
+    );
+    for (word, stream) in [("its last name", shape::LAST_NAME), ("a name in no family", b"a")] {
+        let naming = Naming { stream, families: &families, place: 0, len: stream.len() };
+        let due = expected::first_name(naming).answer;
+        assert_eq!(proved::first_name(naming), due);
+        println!(" for {word}");
+        let names = ["proved first name", "second program"];
+        race_all(&names, CALLS * size, |place| match place {
+            0 => timed(|| (0..CALLS).for_each(|_| assert_eq!(proved::first_name(black_box(naming)), due))).0,
+            _ => {
+                let run = || expected::first_name(black_box(naming)).answer;
+                timed(|| (0..CALLS).for_each(|_| assert_eq!(run(), due))).0
+            }
+        });
+    }
 }
 
 /// The best time of each, in turns.
 fn race(runners: &[Runner], rows: &mut Rows, search: Search) {
-    let mut best = vec![Duration::MAX; runners.len()];
+    let names: Vec<&str> = runners.iter().map(|(name, _)| *name).collect();
+    race_all(&names, search.stream.len(), |place| runners[place].1(rows, search));
+}
+
+/// The same for what `run` times, by its place among the names; its speed is in so many bytes.
+fn race_all(names: &[&str], bytes: usize, mut run: impl FnMut(usize) -> Duration) {
+    let mut best = vec![Duration::MAX; names.len()];
     for _ in 0..ROUNDS {
-        for (time, (_, run)) in best.iter_mut().zip(runners) {
-            *time = run(rows, search).min(*time);
+        for (place, time) in best.iter_mut().enumerate() {
+            *time = run(place).min(*time);
         }
     }
     let seconds: Vec<f64> = best.iter().map(Duration::as_secs_f64).collect();
-    let is_second = |place: &usize| runners[*place].0.starts_with("second");
-    for ((name, _), time) in runners.iter().zip(&seconds) {
+    let is_second = |place: &usize| names[*place].starts_with("second");
+    for (name, time) in names.iter().zip(&seconds) {
         let ratio = |place: usize| format!("{:.2}", time / seconds[place]);
         let ratios: Vec<String> = (0..seconds.len()).filter(is_second).map(ratio).collect();
-        let (milliseconds, speed) = (time * 1_000.0, megabytes(search.stream.len()) / time);
+        let (milliseconds, speed) = (time * 1_000.0, megabytes(bytes) / time);
         let ratios = ratios.join(", ");
         println!("  {name:18} {milliseconds:8.2} ms {speed:7.1} MB/s, ratios {ratios}");
     }
@@ -196,11 +240,12 @@ impl Rows {
     }
 
     /// The same walk, then its search.
-    fn time_kept_find(&mut self, Search { stream, list, query }: Search) -> Duration {
+    fn time_kept_find(&mut self, Search { stream, list, families, query }: Search) -> Duration {
         let (time, hits) = timed(|| {
+            let families = read_families(families).expect("the family list is sound");
             let glyphs = read_query(query).expect("the query is sound");
             self.walk(stream, list);
-            occurrences(stream, &self.kept, &glyphs)
+            occurrences(stream, &self.kept, &families, &glyphs)
         });
         assert_eq!(hits.len(), self.due);
         time
@@ -214,8 +259,8 @@ fn time_second_read(_: &mut Rows, Search { stream, list, .. }: Search) -> Durati
     time
 }
 
-fn time_second_find(_: &mut Rows, Search { stream, list, query }: Search) -> Duration {
-    let (time, found) = timed(|| second::find(stream, list, query, Rooms::default()));
+fn time_second_find(_: &mut Rows, Search { stream, list, families, query }: Search) -> Duration {
+    let (time, found) = timed(|| second::find(stream, list, families, query, Rooms::default()));
     assert!(found.is_ok());
     time
 }
