@@ -2,15 +2,25 @@
 //! lacks room, and they are kept from stream to stream.
 
 use crate::args::Command;
+use crate::families::FirstNames;
 use crate::reasons::{Explained, Inputs, Refusal};
 use library::{Entry, JudgeResult, ReadResult, Record, SPELLING_LIMIT};
 use std::collections::TryReserveError;
 
 /// An answer, in the rows it was written to.
 pub enum Answer<'a> {
-    Glyphs { stream: &'a [u8], end: ReadResult, records: &'a [Record], entries: &'a [Entry] },
+    Glyphs {
+        stream: &'a [u8],
+        names: FirstNames<'a>,
+        end: ReadResult,
+        records: &'a [Record],
+        entries: &'a [Entry],
+    },
     Spelling(&'a [u8]),
-    Found { records: &'a [Record], hits: &'a [u32] },
+    Found {
+        records: &'a [Record],
+        hits: &'a [u32],
+    },
     Judged(JudgeResult),
     Refused(Explained),
 }
@@ -25,7 +35,8 @@ pub struct Rows {
 
 impl Rows {
     /// Runs a command's routine, unless the stream is refused already; `Err` where there is no memory for a
-    /// row. The query comes before the stream in the order of refusals, so the finder is asked even then.
+    /// row. Family list and query come before the stream in the order of refusals, so the finder is asked even
+    /// then.
     pub fn answer<'a>(
         &'a mut self,
         command: Command,
@@ -50,7 +61,8 @@ impl Rows {
         let entries = fit(&mut self.entries, judged.entries)?;
         let end = library::read(inputs.stream, inputs.widths, records, entries);
         let (records, entries) = (&records[..end.records], &entries[..end.entries]);
-        let answer = Answer::Glyphs { stream: inputs.stream, end, records, entries };
+        let names = FirstNames::of(inputs.stream, inputs.families, records)?;
+        let answer = Answer::Glyphs { stream: inputs.stream, names, end, records, entries };
         Ok(or_refused(end.refusal, end.offset, inputs, answer))
     }
 
@@ -73,7 +85,8 @@ impl Rows {
     ) -> Result<Answer<'a>, TryReserveError> {
         let records = fit(&mut self.records, judged.records)?;
         let hits = fit(&mut self.hits, judged.records)?;
-        let end = library::find(inputs.stream, inputs.widths, inputs.query, records, hits);
+        let Inputs { stream, widths, families, query } = inputs;
+        let end = library::find(stream, widths, families, query, records, hits);
         let answer = Answer::Found { records: &records[..end.records], hits: &hits[..end.hits] };
         Ok(or_refused(end.refusal, end.offset, inputs, answer))
     }

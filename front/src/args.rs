@@ -1,18 +1,29 @@
 //! The command line.
 
 use crate::files::{printable, Source};
-use crate::shorthand::{self, Fault};
+use crate::shorthand::{self, Fault, Piece};
 use std::ffi::{OsStr, OsString};
 use std::os::unix::ffi::{OsStrExt, OsStringExt};
 
 /// What is to be done.
 #[derive(Debug, PartialEq, Eq)]
 pub enum Action {
-    Help(Option<Command>),
+    Help(Page),
     Version,
+    /// prints the program's own family list
+    Letters,
     Run(Job),
 }
 
+/// A page of the help.
+#[derive(Clone, Copy, Debug, PartialEq, Eq)]
+pub enum Page {
+    Whole,
+    Of(Command),
+    Letters,
+}
+
+/// What is done with streams.
 #[derive(Clone, Copy, Debug, PartialEq, Eq)]
 pub enum Command {
     Glyphs,
@@ -25,6 +36,8 @@ pub enum Command {
 pub struct Job {
     pub command: Command,
     pub widths: Source,
+    /// of `find` and `glyphs`
+    pub families: Option<Source>,
     /// of `find` alone
     pub query: Option<Query>,
     pub json: bool,
@@ -34,8 +47,8 @@ pub struct Job {
 #[derive(Debug, PartialEq, Eq)]
 pub enum Query {
     File(Source),
-    /// the lines made of the text of `-e`
-    Text(Vec<u8>),
+    /// the parts of the text of `-e`
+    Text(Vec<Piece>),
 }
 
 /// What is wrong with a command line, for people; bytes, as it may name an argument.
@@ -44,6 +57,7 @@ pub type Wrong = Vec<u8>;
 #[derive(Clone, Copy)]
 enum Choice {
     Widths,
+    Families,
     Query,
     Text,
     Json,
@@ -54,15 +68,16 @@ enum Choice {
 /// Reads the arguments, the program's name aside.
 pub fn parse(arguments: Vec<OsString>) -> Result<Action, Wrong> {
     let mut rest = arguments.into_iter();
-    let first = rest.next().ok_or("a command is missing: glyphs, respell, find or check")?;
+    let first = rest.next().ok_or("a command is missing: glyphs, respell, find, check or letters")?;
     let command = match first.as_bytes() {
         b"glyphs" => Command::Glyphs,
         b"respell" => Command::Respell,
         b"find" => Command::Find,
         b"check" => Command::Check,
-        b"-h" | b"--help" => return Ok(Action::Help(None)),
+        b"letters" => return letters(rest),
+        b"-h" | b"--help" => return Ok(Action::Help(Page::Whole)),
         b"-V" | b"--version" => return Ok(Action::Version),
-        _ => return Err(about(&first, "is no command; there are glyphs, respell, find and check")),
+        _ => return Err(about(&first, "is no command; there are glyphs, respell, find, check and letters")),
     };
     let mut given = Given::default();
     let mut is_operand = false;
@@ -72,7 +87,7 @@ pub fn parse(arguments: Vec<OsString>) -> Result<Action, Wrong> {
             [b'-', _, ..] if !is_operand => {
                 let (choice, value) = option(&argument)?;
                 match choice {
-                    Choice::Help => return Ok(Action::Help(Some(command))),
+                    Choice::Help => return Ok(Action::Help(Page::Of(command))),
                     Choice::Version => return Ok(Action::Version),
                     _ => given.take(choice, &argument, value, &mut rest)?,
                 }
@@ -81,6 +96,16 @@ pub fn parse(arguments: Vec<OsString>) -> Result<Action, Wrong> {
         }
     }
     given.job(command).map(Action::Run)
+}
+
+/// `letters` has neither options of its own nor files.
+fn letters(mut rest: impl Iterator<Item = OsString>) -> Result<Action, Wrong> {
+    let Some(argument) = rest.next() else { return Ok(Action::Letters) };
+    match argument.as_bytes() {
+        b"-h" | b"--help" => Ok(Action::Help(Page::Letters)),
+        b"-V" | b"--version" => Ok(Action::Version),
+        _ => Err(about(&argument, "is too much: letters takes no further arguments")),
+    }
 }
 
 fn about(argument: &OsStr, message: &str) -> Wrong {
@@ -99,6 +124,7 @@ fn option(argument: &OsStr) -> Result<(Choice, Option<OsString>), Wrong> {
     };
     let choice = match name {
         b"-w" | b"--widths" => Choice::Widths,
+        b"-f" | b"--families" => Choice::Families,
         b"-q" | b"--query" => Choice::Query,
         b"-e" | b"--text" => Choice::Text,
         b"--json" => Choice::Json,
@@ -106,8 +132,8 @@ fn option(argument: &OsStr) -> Result<(Choice, Option<OsString>), Wrong> {
         b"-V" | b"--version" => Choice::Version,
         _ => return Err(about(argument, "is no option of this program")),
     };
-    let takes_value = matches!(choice, Choice::Widths | Choice::Query | Choice::Text);
-    if value.is_some() && !takes_value {
+    let is_switch = matches!(choice, Choice::Json | Choice::Help | Choice::Version);
+    if value.is_some() && is_switch {
         return Err(about(OsStr::from_bytes(name), "takes no value"));
     }
     Ok((choice, value.map(|value| OsString::from_vec(value.to_vec()))))
@@ -117,6 +143,7 @@ fn option(argument: &OsStr) -> Result<(Choice, Option<OsString>), Wrong> {
 #[derive(Default)]
 struct Given {
     widths: Option<Source>,
+    families: Option<Source>,
     query: Option<Source>,
     text: Option<OsString>,
     json: bool,
@@ -139,6 +166,7 @@ impl Given {
         let value = value.or_else(|| rest.next()).ok_or_else(|| about(argument, "needs a value"))?;
         let is_second = match choice {
             Choice::Widths => self.widths.replace(Source::of(value)).is_some(),
+            Choice::Families => self.families.replace(Source::of(value)).is_some(),
             Choice::Query => self.query.replace(Source::of(value)).is_some(),
             _ => self.text.replace(value).is_some(),
         };
@@ -149,20 +177,23 @@ impl Given {
     }
 
     fn job(self, command: Command) -> Result<Job, Wrong> {
-        let Given { widths, query, text, json, streams } = self;
+        let Given { widths, families, query, text, json, streams } = self;
         let query = query_of(command, query, text)?;
+        if families.is_some() && !matches!(command, Command::Find | Command::Glyphs) {
+            return Err(Wrong::from("-f is an option of find and glyphs alone"));
+        }
         let widths = widths.ok_or("the width list is missing: -w FILE")?;
         if streams.is_empty() {
             return Err(Wrong::from("a stream is missing: name a file, or - for standard input"));
         }
-        let mut sources: Vec<&Source> = streams.iter().chain([&widths]).collect();
+        let mut sources: Vec<&Source> = streams.iter().chain([&widths]).chain(&families).collect();
         if let Some(Query::File(source)) = &query {
             sources.push(source);
         }
         if sources.iter().filter(|source| ***source == Source::Standard).count() > 1 {
             return Err(Wrong::from("standard input (-) can be only one of the files"));
         }
-        Ok(Job { command, widths, query, json, streams })
+        Ok(Job { command, widths, families, query, json, streams })
     }
 }
 
@@ -170,16 +201,19 @@ impl Given {
 fn query_of(command: Command, query: Option<Source>, text: Option<OsString>) -> Result<Option<Query>, Wrong> {
     match (command, query, text) {
         (Command::Find, Some(source), None) => Ok(Some(Query::File(source))),
-        (Command::Find, None, Some(text)) => shorthand::query(text.as_bytes())
-            .map(|query| Some(Query::Text(query)))
-            .map_err(|Fault { place, message }| {
-                format!("the text of -e: byte {}: {message}", place + 1).into_bytes()
-            }),
+        (Command::Find, None, Some(text)) => {
+            shorthand::pieces(text.as_bytes()).map(|pieces| Some(Query::Text(pieces))).map_err(wrong_text)
+        }
         (Command::Find, None, None) => Err(Wrong::from("the query is missing: -q FILE or -e TEXT")),
         (Command::Find, Some(_), Some(_)) => Err(Wrong::from("give -q or -e, not both")),
         (_, None, None) => Ok(None),
         _ => Err(Wrong::from("-q and -e are options of find alone")),
     }
+}
+
+/// What is wrong with the text of `-e`.
+pub fn wrong_text(Fault { place, message }: Fault) -> Wrong {
+    format!("the text of -e: byte {}: {message}", place + 1).into_bytes()
 }
 
 #[cfg(test)]
@@ -214,12 +248,41 @@ mod tests {
         assert_job(&["find", "-ww", "-qq", "s"], file("w"), query(), &[file("s")]);
         assert_job(&["find", "--widths", "w", "--query", "q", "s"], file("w"), query(), &[file("s")]);
         assert_job(&["find", "--widths=w", "--query=q", "s"], file("w"), query(), &[file("s")]);
-        let text = || Some(Query::Text(b"glyph=-\n".to_vec()));
+        let text = || Some(Query::Text(vec![Piece::Glyph(b"-".to_vec())]));
         assert_job(&["find", "-e", "-", "-w", "w", "s"], file("w"), text(), &[file("s")]);
         assert_job(&["find", "--text=-", "-w", "w", "s"], file("w"), text(), &[file("s")]);
         assert_job(&["find", "--text", "-", "-w", "w", "s"], file("w"), text(), &[file("s")]);
         let empty = Some(Query::Text(Vec::new()));
         assert_job(&["find", "--text=", "-w", "w", "s"], file("w"), empty, &[file("s")]);
+    }
+
+    #[test]
+    fn a_family_list_for_find_and_glyphs() {
+        let families = |arguments: &[&str]| match parsed(arguments) {
+            Ok(Action::Run(job)) => job.families,
+            other => panic!("{other:?}"),
+        };
+        let forms = [&["-f", "l"][..], &["-fl"], &["--families", "l"], &["--families=l"]];
+        for form in forms {
+            let glyphs = [&["glyphs", "-w", "w"], form, &["s"]].concat();
+            let find = [&["find", "-w", "w", "-q", "q"], form, &["s"]].concat();
+            assert_eq!((families(&glyphs), families(&find)), (Some(file("l")), Some(file("l"))));
+        }
+        assert_eq!(families(&["glyphs", "-w", "w", "s"]), None);
+        assert_eq!(families(&["glyphs", "-w", "w", "-f", "-", "s"]), Some(Source::Standard));
+        for command in ["respell", "check"] {
+            assert_wrong(&[command, "-w", "w", "-f", "l", "s"], "-f is an option of find and glyphs alone");
+        }
+        assert_wrong(&["glyphs", "-w", "w", "-f", "l", "-f", "l", "s"], "-f is given twice");
+    }
+
+    #[test]
+    fn letters_takes_nothing() {
+        assert_eq!(parsed(&["letters"]), Ok(Action::Letters));
+        assert_eq!(parsed(&["letters", "--help"]), Ok(Action::Help(Page::Letters)));
+        assert_eq!(parsed(&["letters", "-V"]), Ok(Action::Version));
+        assert_wrong(&["letters", "-w", "w"], "-w is too much");
+        assert_wrong(&["letters", "s"], "s is too much");
     }
 
     #[test]
@@ -243,9 +306,9 @@ mod tests {
 
     #[test]
     fn help_and_version() {
-        for (option, action) in [("-h", Action::Help(None)), ("--help", Action::Help(None))] {
-            assert_eq!(parsed(&[option]), Ok(action));
-            assert_eq!(parsed(&["find", "s", option]), Ok(Action::Help(Some(Command::Find))));
+        for option in ["-h", "--help"] {
+            assert_eq!(parsed(&[option]), Ok(Action::Help(Page::Whole)));
+            assert_eq!(parsed(&["find", "s", option]), Ok(Action::Help(Page::Of(Command::Find))));
         }
         for option in ["-V", "--version"] {
             assert_eq!(parsed(&[option]), Ok(Action::Version));
@@ -280,5 +343,7 @@ mod tests {
         assert_wrong(&["glyphs", "-w", "w", "-", "-"], "only one of the files");
         assert_wrong(&["find", "-w", "w", "-q", "-", "-"], "only one of the files");
         assert_wrong(&["find", "-w", "-", "-q", "-", "s"], "only one of the files");
+        assert_wrong(&["glyphs", "-w", "w", "-f", "-", "-"], "only one of the files");
+        assert_wrong(&["find", "-w", "-", "-f", "-", "-q", "q", "s"], "only one of the files");
     }
 }

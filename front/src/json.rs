@@ -14,9 +14,9 @@ const PART: usize = 4_096;
 pub fn answer(out: &mut dyn Write, file: &OsStr, answer: &Answer) -> io::Result<()> {
     let mut object = Object::new(file);
     match answer {
-        Answer::Glyphs { stream, end, records, entries } => {
+        Answer::Glyphs { stream, names, end, records, entries } => {
             for (number, record) in records.iter().enumerate() {
-                glyph(&mut object, number, record, stream);
+                glyph(&mut object, number, record, names.first(record.name(stream)));
                 object.end(out)?;
             }
             for found in *entries {
@@ -49,7 +49,7 @@ pub fn error(out: &mut dyn Write, file: &OsStr, about: About, message: &str) -> 
     object.end(out)
 }
 
-fn glyph(object: &mut Object, number: usize, record: &Record, stream: &[u8]) {
+fn glyph(object: &mut Object, number: usize, record: &Record, name: &[u8]) {
     object.begin("glyph");
     object.number("record", number as i64);
     place(object, record);
@@ -57,7 +57,7 @@ fn glyph(object: &mut Object, number: usize, record: &Record, stream: &[u8]) {
     object.raw("gap", if record.gap == 0 { b"false" } else { b"true" });
     object.number("index", record.index.into());
     object.numbers([("place", record.place.into()), ("length", record.len.into())]);
-    object.bytes("name", record.name(stream));
+    object.bytes("name", name);
 }
 
 /// Where a record stands.

@@ -1,12 +1,15 @@
 //! `mrkvandel`: reads, rewrites, searches and judges streams of troff intermediate output, by the
 //! proved library. `--help` says how it is used.
 
+mod alphabet;
 mod answers;
 mod args;
 mod check;
+mod families;
 mod files;
 mod help;
 mod json;
+mod letters;
 mod output;
 mod printer;
 mod reasons;

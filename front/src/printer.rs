@@ -84,11 +84,30 @@ impl<'a> Printer<'a> {
         let (file, within) = match (about, &self.job.query) {
             (About::Stream, _) => (source.shown(), ""),
             (About::Widths, _) => (self.job.widths.shown(), ""),
+            (About::Families, _) => (self.families(), ""),
             (About::Query, Some(Query::File(query))) => (query.shown(), ""),
             (About::Query, _) => (b"the text of -e".to_vec(), " of its query"),
         };
         let message = format!("line {line}, column {column}{within}: refused {number}: {reason}");
         self.output.say(&file, &message);
+    }
+
+    /// The name of the family list, for a line on standard error.
+    fn families(&self) -> Vec<u8> {
+        self.job.families.as_ref().map_or_else(|| b"mrkvandel letters".to_vec(), Source::shown)
+    }
+
+    /// Says that letters are looked for by the program's own family list.
+    pub fn own_list(&mut self) {
+        let message = "letters are looked for under all their names, by the list of `mrkvandel letters`";
+        self.output.say(b"the text of -e", message);
+    }
+
+    /// Says that a family list is wrong, where it is not refused but counts as an empty one.
+    pub fn no_list(&mut self, explained: &Explained) {
+        let Explained { line, column, reason, .. } = *explained;
+        let message = format!("line {line}, column {column}: {reason}; it counts as an empty one");
+        self.output.say(&self.families(), &message);
     }
 
     /// A stream that cannot be read.

@@ -1,14 +1,15 @@
-//! Refusals in words: the reason of 01's table, or of 02 for 16, what it is about, and where.
+//! Refusals in words: the reason of 01's table, or of 02 for 14 and 16, what it is about, and where.
 
-use library::{LIST_LIMIT, QUERY_LIMIT, STREAM_LIMIT};
+use library::{FAMILIES_LIMIT, LIST_LIMIT, QUERY_LIMIT, STREAM_LIMIT};
 
-const TOO_LONG: u32 = 1;
+pub const TOO_LONG: u32 = 1;
 const WIDTH_LIST: u32 = 2;
 const QUERY: u32 = 12;
+pub const FAMILY_LIST: u32 = 14;
 
 /// Every refusal number with its reason, for the help.
-pub const REASONS: [(u32, &str); 14] = [
-    (TOO_LONG, "stream over 16,777,216 bytes, width list over 65,536 or query over 8,192"),
+pub const REASONS: [(u32, &str); 15] = [
+    (TOO_LONG, "stream over 16,777,216 bytes, width list or family list over 65,536, or query over 8,192"),
     (WIDTH_LIST, "width list: a line is wrong or missing"),
     (3, "unknown command, `D`, `DF`, `m` or `x` letter, or none"),
     (4, "argument missing or malformed; none or an odd number for `Dp`, `DP`, `D~`"),
@@ -25,21 +26,23 @@ pub const REASONS: [(u32, &str); 14] = [
     (11, "no `x s`"),
     (QUERY, "query: a line is wrong, or there is none"),
     (13, "the spelling is over 16,777,216 bytes"),
+    (FAMILY_LIST, "family list: a line is wrong or missing"),
     (16, "byte 0 to 8, 11 to 31 or 127 in a name, a glyph or a word"),
 ];
 
-/// A refusal: its number in 01's table, or 16 of 02, and its offset.
+/// A refusal: its number in 01's table, or 14 or 16 of 02, and its offset.
 #[derive(Clone, Copy, Debug, PartialEq, Eq)]
 pub struct Refusal {
     pub number: u32,
     pub offset: usize,
 }
 
-/// What is handed to a routine, its rows aside; without a query that is empty.
+/// What is handed to a routine, its rows aside; a family list or query that is not given is empty.
 #[derive(Clone, Copy)]
 pub struct Inputs<'a> {
     pub stream: &'a [u8],
     pub widths: &'a [u8],
+    pub families: &'a [u8],
     pub query: &'a [u8],
 }
 
@@ -48,6 +51,7 @@ pub struct Inputs<'a> {
 pub enum About {
     Stream,
     Widths,
+    Families,
     Query,
 }
 
@@ -56,6 +60,7 @@ impl About {
         match self {
             About::Stream => "stream",
             About::Widths => "widths",
+            About::Families => "families",
             About::Query => "query",
         }
     }
@@ -78,12 +83,14 @@ impl Explained {
         let about = match number {
             TOO_LONG => too_long(inputs),
             WIDTH_LIST => About::Widths,
+            FAMILY_LIST => About::Families,
             QUERY => About::Query,
             _ => About::Stream,
         };
         let bytes = match about {
             About::Stream => inputs.stream,
             About::Widths => inputs.widths,
+            About::Families => inputs.families,
             About::Query => inputs.query,
         };
         let (line, column) = line_and_column(bytes, offset);
@@ -97,6 +104,8 @@ fn too_long(inputs: Inputs) -> About {
         About::Stream
     } else if inputs.widths.len() > LIST_LIMIT {
         About::Widths
+    } else if inputs.families.len() > FAMILIES_LIMIT {
+        About::Families
     } else {
         debug_assert!(inputs.query.len() > QUERY_LIMIT);
         About::Query
@@ -107,6 +116,7 @@ fn reason(number: u32, about: About) -> &'static str {
     match (number, about) {
         (TOO_LONG, About::Stream) => "stream over 16,777,216 bytes",
         (TOO_LONG, About::Widths) => "width list over 65,536 bytes",
+        (TOO_LONG, About::Families) => "family list over 65,536 bytes",
         (TOO_LONG, About::Query) => "query over 8,192 bytes",
         _ => REASONS.iter().find(|(known, _)| *known == number).map_or("unknown refusal", |row| row.1),
     }
@@ -135,7 +145,7 @@ mod tests {
     #[test]
     fn every_number_has_its_reason() {
         let numbers: Vec<u32> = REASONS.iter().map(|(number, _)| *number).collect();
-        assert_eq!(numbers, (1..=13).chain([16]).collect::<Vec<u32>>());
+        assert_eq!(numbers, (1..=14).chain([16]).collect::<Vec<u32>>());
     }
 
     #[test]
@@ -143,11 +153,15 @@ mod tests {
         let (short, stream) = (&b"a"[..], vec![b'a'; STREAM_LIMIT + 1]);
         let widths = &stream[..=LIST_LIMIT];
         let query = &stream[..=QUERY_LIMIT];
-        let about = |stream, widths, query| {
-            Explained::of(Refusal { number: 1, offset: 0 }, Inputs { stream, widths, query }).about
+        let families = &stream[..=FAMILIES_LIMIT];
+        let about = |stream, widths, families, query| {
+            let inputs = Inputs { stream, widths, families, query };
+            Explained::of(Refusal { number: 1, offset: 0 }, inputs).about
         };
-        assert_eq!(about(&stream, short, short), About::Stream);
-        assert_eq!(about(short, widths, query), About::Widths);
-        assert_eq!(about(&stream[..STREAM_LIMIT], &widths[..LIST_LIMIT], query), About::Query);
+        assert_eq!(about(&stream, short, short, short), About::Stream);
+        assert_eq!(about(short, widths, families, query), About::Widths);
+        assert_eq!(about(short, &widths[..LIST_LIMIT], families, query), About::Families);
+        let (stream, families) = (&stream[..STREAM_LIMIT], &families[..FAMILIES_LIMIT]);
+        assert_eq!(about(stream, short, families, query), About::Query);
     }
 }

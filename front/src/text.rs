@@ -1,6 +1,7 @@
 //! The text of FORMATS: what the commands print, byte for byte.
 
 use crate::answers::Answer;
+use crate::families::FirstNames;
 use crate::reasons::Explained;
 use library::{Colour, Entry, ReadResult, Record};
 use std::ffi::OsStr;
@@ -14,8 +15,8 @@ pub fn heading(out: &mut dyn Write, name: &OsStr) -> io::Result<()> {
 
 pub fn answer(out: &mut dyn Write, answer: &Answer) -> io::Result<()> {
     match answer {
-        Answer::Glyphs { stream, end, records, entries } => {
-            glyphs(out, stream, records)?;
+        Answer::Glyphs { stream, names, end, records, entries } => {
+            glyphs(out, stream, names, records)?;
             let mut line = Vec::new();
             entries.iter().try_for_each(|found| entry(out, &mut line, found))?;
             last(out, end)
@@ -31,8 +32,13 @@ pub fn answer(out: &mut dyn Write, answer: &Answer) -> io::Result<()> {
     }
 }
 
-/// `glyph ORDINAL PAGE H V FONT SIZE GAP INDEX PLACE LENGTH NAME`
-fn glyphs(out: &mut dyn Write, stream: &[u8], records: &[Record]) -> io::Result<()> {
+/// `glyph ORDINAL PAGE H V FONT SIZE GAP INDEX PLACE LENGTH NAME`, the first name where there are families
+fn glyphs<'a>(
+    out: &mut dyn Write,
+    stream: &'a [u8],
+    names: &FirstNames<'a>,
+    records: &[Record],
+) -> io::Result<()> {
     let mut line = Vec::new();
     for record in records {
         let Record { ordinal, page, h, v, font, size, place, len, index, gap } = *record;
@@ -42,7 +48,7 @@ fn glyphs(out: &mut dyn Write, stream: &[u8], records: &[Record]) -> io::Result<
         [page, h, v].into_iter().for_each(|number| field(&mut line, number.into()));
         [font, size, gap, index, place, len].into_iter().for_each(|number| field(&mut line, number.into()));
         line.push(b' ');
-        line.extend(record.name(stream));
+        line.extend(names.first(record.name(stream)));
         line.push(b'\n');
         out.write_all(&line)?;
     }

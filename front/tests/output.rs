@@ -31,7 +31,7 @@ fn assert_lost(error: &str, run: impl Fn(&[&str]) -> common::Ran) {
     let totals = "mrkvandel: 3 checked: 2 accepted, 1 refused, 0 unreadable\n";
     let ran = run(&[&["check"][..], &streams].concat());
     ran.assert(2, "", &format!("{}{REFUSED}{totals}", lost(error)));
-    for option in ["--help", "--version"] {
+    for option in ["--help", "--version", "letters"] {
         run(&[option]).assert(2, "", &lost(error));
     }
 }

@@ -1,4 +1,4 @@
-//! The sample ruling, and the script that makes a width list.
+//! The sample rulings, and the script that makes a width list.
 
 mod common;
 
@@ -33,13 +33,32 @@ fn the_ruling_is_accepted_and_has_two_pages() {
     assert!(before.text().starts_with("hit "), "{}", before.text());
 }
 
-/// The files that the sample has name no place on the machine they were made on.
+/// The second volume has the village under two other names, so that no one name finds it everywhere.
 #[test]
-fn the_ruling_names_no_path() {
-    let stream = sample("ruling.out");
-    let controls = stream.split(|&byte| byte == b'\n').filter(|line| line.starts_with(b"x "));
-    assert!(controls.clone().count() >= 5);
-    assert!(controls.clone().all(|line| !line.contains(&b'/') && !line.starts_with(b"x F")));
+fn the_second_ruling_has_other_names() {
+    let folder = Folder::new("ruling-2");
+    folder.put("stream", &sample("ruling-2.out"));
+    folder.put("widths", &sample("ruling.widths"));
+    let hits = |text: &str| {
+        let ran = folder.run(&["find", "-w", "widths", "-e", text, "stream"]);
+        assert_eq!(ran.status, 0, "{}", ran.err);
+        ran.text().lines().filter(|line| line.starts_with("hit ")).count()
+    };
+    assert_eq!(hits("Val\\['e]nou"), 0);
+    let (marked, byte) = (hits("Val\\[u0065_0301]nou"), hits("Val\\xE9nou"));
+    assert!(marked > 0 && byte > 0);
+    assert_eq!(hits("Valénou"), marked + byte);
+}
+
+/// The files that the samples have name no place on the machine they were made on.
+#[test]
+fn the_rulings_name_no_path() {
+    for name in ["ruling.out", "ruling-2.out"] {
+        let stream = sample(name);
+        let controls = stream.split(|&byte| byte == b'\n').filter(|line| line.starts_with(b"x "));
+        assert!(controls.clone().count() >= 5);
+        assert!(controls.clone().all(|line| !line.contains(&b'/') && !line.starts_with(b"x F")));
+    }
 }
 
 /// Glyphs of one byte alone, bytes rising; `"` stands for the metrics of the line before.

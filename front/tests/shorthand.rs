@@ -27,12 +27,12 @@ fn find(folder: &Folder, text: &str) -> String {
     ran.text().to_string()
 }
 
-/// A text finds what the second program finds by the query written out.
+/// A text of ASCII finds what the second program finds by the query written out, without a family list.
 #[track_caller]
 fn assert_finds(folder: &Folder, text: &str, query: &str, hits: usize) {
     let query = query.replace(' ', "\n") + "\n";
-    let expected =
-        Second.find(&sample("ruling.out"), &sample("ruling.widths"), query.as_bytes(), Rooms::default());
+    let (stream, list) = (sample("ruling.out"), sample("ruling.widths"));
+    let expected = Second.find(&stream, &list, b"", query.as_bytes(), Rooms::default());
     let expected = String::from_utf8(expected.expect("the ruling is accepted")).expect("a text");
     assert_eq!(find(folder, text), expected);
     assert_eq!(expected.lines().count(), hits + 1, "{text}");
@@ -98,13 +98,15 @@ fn a_glyph_of_any_byte() {
     }
 }
 
+/// The letter finds what its name in this ruling finds.
 #[test]
-fn a_raw_letter_is_explained() {
+fn a_letter_over_127() {
     let folder = folder("raw");
-    let ran = folder.run(&["find", "-w", "ruling.widths", "-e", "Val\u{e9}nou", "ruling.out"]);
-    assert_eq!((ran.status, ran.text()), (2, ""));
-    assert!(ran.err.starts_with("mrkvandel: the text of -e: byte 4: a byte over 127 "), "{}", ran.err);
-    assert!(ran.err.contains("\\['e] or \\xE9"), "{}", ran.err);
+    for text in ["Val\u{e9}nou", "Vale\u{301}nou"] {
+        let ran = folder.run(&["find", "-w", "ruling.widths", "-e", text, "ruling.out"]);
+        assert_eq!((ran.status, ran.text()), (0, &find(&folder, "Val\\['e]nou")[..]));
+        assert_eq!(ran.err.lines().count(), 1, "{}", ran.err);
+    }
 }
 
 #[test]

@@ -20,15 +20,15 @@ fn help_names_every_option_command_status_and_refusal() {
     let ran = Folder::new("help").run(&["--help"]);
     assert_eq!((ran.status, ran.err.as_str()), (0, ""));
     let words =
-        ["glyphs", "respell", "find", "check", "--widths", "--query", "--text", "--json", "--version"];
+        ["glyphs", "respell", "find", "check", "letters", "--widths", "--families", "--query", "--text"];
     let shapes = ["glyph", "entry", "end", "hit", "found", "spelling", "check", "refused", "error"];
-    for word in words {
+    for word in words.into_iter().chain(["--json", "--version"]) {
         assert!(ran.text().contains(word), "{word} is missing");
     }
     for shape in shapes {
         assert!(ran.text().contains(&format!("{{\"type\":\"{shape}\"")), "{shape} is missing");
     }
-    for number in (1..=13).chain([16]) {
+    for number in (1..=14).chain([16]) {
         let starts = |line: &str| line.starts_with(&format!("{number:>4}  "));
         assert!(ran.text().lines().any(starts), "refusal {number} is missing");
     }
@@ -42,10 +42,10 @@ fn help_names_every_option_command_status_and_refusal() {
 #[test]
 fn help_of_a_command() {
     let folder = Folder::new("help-command");
-    for command in ["glyphs", "respell", "find", "check"] {
+    for command in ["glyphs", "respell", "find", "check", "letters"] {
         let ran = folder.run(&[command, "--help"]);
         assert_eq!((ran.status, ran.err.as_str()), (0, ""));
-        assert!(ran.text().starts_with(&format!("mrkvandel {command} ")), "{}", ran.text());
+        assert!(ran.text().starts_with(&format!("mrkvandel {command}")), "{}", ran.text());
         assert_eq!(folder.run(&[command, "-h"]), ran);
     }
     assert_eq!(folder.run(&["-h"]), folder.run(&["--help"]));
@@ -85,8 +85,8 @@ fn assert_usage(folder: &Folder, arguments: &[&str], message: &str) {
 #[test]
 fn usage_errors_print_nothing() {
     let folder = Folder::new("usage");
-    assert_usage(&folder, &[], "a command is missing: glyphs, respell, find or check");
-    let unknown = "is no command; there are glyphs, respell, find and check";
+    assert_usage(&folder, &[], "a command is missing: glyphs, respell, find, check or letters");
+    let unknown = "is no command; there are glyphs, respell, find, check and letters";
     assert_usage(&folder, &["gl?phs\n"], &format!("gl?phs? {unknown}"));
     assert_usage(&folder, &["glyphs", "stream"], "the width list is missing: -w FILE");
     let no_stream = "a stream is missing: name a file, or - for standard input";
@@ -97,6 +97,8 @@ fn usage_errors_print_nothing() {
     assert_usage(&folder, &both, "give -q or -e, not both");
     let other = ["respell", "-w", "widths", "-e", "a", "stream"];
     assert_usage(&folder, &other, "-q and -e are options of find alone");
+    let families = ["check", "-w", "widths", "-f", "query", "stream"];
+    assert_usage(&folder, &families, "-f is an option of find and glyphs alone");
 }
 
 #[test]
@@ -107,6 +109,7 @@ fn standard_input_is_one_of_the_files() {
     assert_usage(&folder, &["glyphs", "-w", "-", "-"], message);
     assert_usage(&folder, &["find", "-w", "widths", "-q", "-", "-"], message);
     assert_usage(&folder, &["find", "-w", "-", "-q", "-", "stream"], message);
+    assert_usage(&folder, &["glyphs", "-w", "widths", "-f", "-", "-"], message);
 }
 
 #[test]

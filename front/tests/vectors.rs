@@ -1,14 +1,15 @@
-//! On every vector the commands print the text of the second program, byte for byte; and `--json` and
-//! `check` say the same.
+//! On every vector, with its family list, the commands print the text of the second program, byte for byte;
+//! and `--json` and `check` say the same.
 
 mod common;
 
 use common::json::{objects, Json};
-use common::{note, Folder, Ran};
-use second::print::{line_and_column, refusal_text};
+use common::{note, Folder, Ran, QUERY, STREAM, WIDTHS};
+use second::families::read_families;
+use second::print::{line_and_column, named_glyphs_text, refusal_text};
 use second::refusal::{LIST_LIMIT, QUERY_LIMIT, STREAM_LIMIT};
 use second::vectors::{all_cases, Case, Program, Second, LEAST_CASES};
-use second::{Refusal, Rooms};
+use second::{first_part, Part, Refusal, Rooms};
 use std::collections::BTreeMap;
 use std::sync::{LazyLock, OnceLock};
 
@@ -43,18 +44,42 @@ impl Routine {
     fn text(self, case: &Case) -> Text {
         let rooms = Rooms::default();
         match self {
-            Routine::Glyphs => Second.glyphs(&case.stream, &case.list, rooms),
+            Routine::Glyphs => second::read(&case.stream, &case.list, rooms)
+                .map(|reading| named_glyphs_text(&case.stream, &case.families, &reading)),
             Routine::Respell => Second.respell(&case.stream, &case.list, rooms),
-            Routine::Find => Second.find(&case.stream, &case.list, query(case), rooms),
+            Routine::Find => Second.find(&case.stream, &case.list, &case.families, query(case), rooms),
         }
     }
 
-    /// The arguments for the file `widths` and, for `find`, the file `query`.
-    fn arguments(self) -> Vec<&'static str> {
-        match self {
-            Routine::Find => vec!["find", "-w", "widths", "-q", "query"],
-            _ => vec![self.name(), "-w", "widths"],
+    /// What it prints where the family list is empty.
+    fn text_without(self, case: &Case) -> Vec<u8> {
+        let plain = Case { families: Vec::new(), ..case.clone() };
+        self.text(&plain).unwrap_or_else(refusal_text)
+    }
+
+    /// The arguments for the file `widths`, for `find` the file `query`, and, where the case has a family
+    /// list, for `find` and `glyphs` the file `families`.
+    fn arguments(self, case: &Case) -> Vec<&'static str> {
+        let mut arguments = vec![self.name(), "-w", "widths"];
+        if matches!(self, Routine::Find) {
+            arguments.extend(["-q", "query"]);
         }
+        if !matches!(self, Routine::Respell) && !case.families.is_empty() {
+            arguments.extend(["-f", "families"]);
+        }
+        arguments
+    }
+
+    /// The line for people about a family list that counts as an empty one.
+    fn told(self, case: &Case) -> Option<String> {
+        let offset = match read_families(&case.families) {
+            _ if case.families.len() > LIST_LIMIT => 0,
+            Ok(_) => return None,
+            Err(refusal) => refusal.offset,
+        };
+        let (line, column) = line_and_column(&case.families, offset);
+        let is_told = matches!(self, Routine::Glyphs);
+        is_told.then(|| format!("mrkvandel: families: line {line}, column {column}: family list"))
     }
 }
 
@@ -73,12 +98,14 @@ fn said(refusal: Refusal, case: &Case) -> String {
     let files = [
         ("stream", &case.stream[..], STREAM_LIMIT),
         ("widths", &case.list, LIST_LIMIT),
+        ("families", &case.families, LIST_LIMIT),
         ("query", query(case), QUERY_LIMIT),
     ];
     let place = match refusal.number {
         1 => files.iter().position(|(_, bytes, limit)| bytes.len() > *limit).expect("one is too long"),
         2 => 1,
-        12 => 2,
+        14 => 2,
+        12 => 3,
         _ => 0,
     };
     let (name, bytes, _) = files[place];
@@ -86,18 +113,26 @@ fn said(refusal: Refusal, case: &Case) -> String {
     format!("mrkvandel: {name}: line {line}, column {column}: refused {}: ", refusal.number)
 }
 
+/// `told`: what a line before all others begins with, where there is one.
 #[track_caller]
-fn assert_agrees(case: &Case, ran: &Ran, expected: &Text) {
+fn assert_agrees(case: &Case, ran: &Ran, told: Option<&String>, expected: &Text) {
     let label = &case.name;
+    let mut err = ran.err.as_str();
+    if let Some(told) = told {
+        let (line, rest) = err.split_once('\n').unwrap_or_else(|| panic!("{label}: nothing is told"));
+        let is_told = line.starts_with(told) && line.ends_with("; it counts as an empty one");
+        assert!(is_told, "{label}: {line}");
+        err = rest;
+    }
     match *expected {
         Ok(ref text) => {
             assert!(ran.out == *text, "{label}: standard output differs");
-            assert_eq!((ran.status, ran.err.as_str()), (0, ""), "{label}");
+            assert_eq!((ran.status, err), (0, ""), "{label}");
         }
         Err(refusal) => {
             assert_eq!((ran.status, &ran.out), (1, &refusal_text(refusal)), "{label}");
-            let reason = ran.err.strip_prefix(&said(refusal, case));
-            let reason = reason.unwrap_or_else(|| panic!("{label}: {}", ran.err));
+            let reason = err.strip_prefix(&said(refusal, case));
+            let reason = reason.unwrap_or_else(|| panic!("{label}: {err}"));
             assert!(reason.ends_with('\n') && reason.lines().count() == 1, "{label}: {reason}");
         }
     }
@@ -105,17 +140,34 @@ fn assert_agrees(case: &Case, ran: &Ran, expected: &Text) {
 
 fn compare(routine: Routine) {
     let folder = Folder::new(&format!("vectors-{}", routine.name()));
-    let mut accepted = 0;
+    let (mut accepted, mut by_families, mut told, mut renamed) = (0, 0, 0, 0);
     for (case, expected) in CASES.iter().zip(routine.expected()) {
         folder.put("stream", &case.stream);
-        folder.put("widths", &case.list);
-        folder.put("query", query(case));
-        let ran = folder.run(&[&routine.arguments()[..], &["stream"]].concat());
+        put_lists(&folder, case);
+        let arguments = routine.arguments(case);
+        let ran = folder.run(&[&arguments[..], &["stream"]].concat());
+        let line = routine.told(case);
         accepted += usize::from(ran.status == 0);
-        assert_agrees(case, &ran, expected);
+        by_families += usize::from(arguments.contains(&"-f"));
+        told += usize::from(line.is_some());
+        renamed += usize::from(!case.families.is_empty() && ran.out != routine.text_without(case));
+        assert_agrees(case, &ran, line.as_ref(), expected);
     }
-    note(&format!("{}: {} vectors, {accepted} accepted", routine.name(), CASES.len()));
+    let name = routine.name();
+    note(&format!(
+        "{name}: {} vectors, {accepted} accepted, {by_families} with a family list: {told} are told to be \
+         wrong, {renamed} make another text",
+        CASES.len()
+    ));
     assert!(accepted >= 350 && CASES.len() - accepted >= 400);
+    let is_respell = matches!(routine, Routine::Respell);
+    assert!(is_respell || (by_families >= 400 && renamed >= 25), "{name}: {by_families}, {renamed}");
+}
+
+fn put_lists(folder: &Folder, case: &Case) {
+    folder.put("widths", &case.list);
+    folder.put("families", &case.families);
+    folder.put("query", query(case));
 }
 
 #[test]
@@ -136,20 +188,18 @@ fn find_prints_the_second_programs_text() {
 /// The few vectors with longer streams are run one by one only, for the time they take.
 const LONG: usize = 1_000_000;
 
-/// The vectors with one width list and query, by their numbers, which can be run together.
+/// The vectors with one width list, family list and query, by their numbers, which can be run together.
 fn groups() -> Vec<Vec<usize>> {
-    let mut groups: BTreeMap<(&[u8], &[u8]), Vec<usize>> = BTreeMap::new();
+    let mut groups: BTreeMap<[&[u8]; 3], Vec<usize>> = BTreeMap::new();
     for (number, case) in CASES.iter().enumerate().filter(|(_, case)| case.stream.len() < LONG) {
-        groups.entry((&case.list, query(case))).or_default().push(number);
+        groups.entry([&case.list, &case.families, query(case)]).or_default().push(number);
     }
     groups.into_values().collect()
 }
 
 /// Writes the files of a group; the names of its streams.
 fn put_group(folder: &Folder, group: &[usize]) -> Vec<String> {
-    let first = &CASES[group[0]];
-    folder.put("widths", &first.list);
-    folder.put("query", query(first));
+    put_lists(folder, &CASES[group[0]]);
     let names: Vec<String> = group.iter().map(|number| format!("stream-{number}")).collect();
     names.iter().zip(group).for_each(|(name, number)| folder.put(name, &CASES[*number].stream));
     names
@@ -213,7 +263,8 @@ fn compare_json(routine: Routine) {
     let mut compared = 0;
     for group in groups() {
         let names = put_group(&folder, &group);
-        let ran = run_group(&folder, &[&routine.arguments()[..], &["--json"]].concat(), &names);
+        let arguments = routine.arguments(&CASES[group[0]]);
+        let ran = run_group(&folder, &[&arguments[..], &["--json"]].concat(), &names);
         let texts = texts(&objects(&ran.out));
         for (name, &number) in names.iter().zip(&group) {
             let expected = routine.expected()[number].clone().unwrap_or_else(refusal_text);
@@ -298,4 +349,26 @@ fn check_as_json_has_the_length_of_the_spelling() {
             }
         }
     }
+}
+
+/// The program's own family list is sound for the library and for the second program, and both have the same
+/// first name for each of its names.
+#[test]
+fn the_own_family_list_is_sound_for_both_programs() {
+    let list = Folder::new("own-families").run(&["letters"]).out;
+    assert!(read_families(&list).is_ok());
+    let (mut records, mut hits) = ([library::Record::default(); 3], [0; 3]);
+    let answer = library::find(STREAM, WIDTHS, &list, QUERY, &mut records, &mut hits);
+    assert_eq!((answer.refusal, answer.records, answer.hits, hits[0]), (0, 3, 1, 0));
+    let names: Vec<&[u8]> = list.split(|&byte| byte == b'\n').filter_map(|line| line.get(5..)).collect();
+    for name in &names {
+        let first = library::first_name(name, &list, 0, name.len());
+        let Part::Families(due) = first_part(name, &list, 0, name.len()) else {
+            panic!("{} is in no family", name.escape_ascii());
+        };
+        let came = (first.source, first.place, first.len);
+        assert_eq!(came, (library::IN_FAMILIES, due.place, due.length), "{}", name.escape_ascii());
+    }
+    note(&format!("the own list: {} bytes, {} names", list.len(), names.len()));
+    assert!(names.len() >= 400);
 }

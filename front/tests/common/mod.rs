@@ -17,7 +17,12 @@ pub const QUERY: &[u8] = b"glyph=a\nglyph=b\ngap=any\nglyph='e\n";
 
 /// A stream that stands behind the usual head: a page, a font and a size are set.
 pub fn body(fragment: &str) -> Vec<u8> {
-    [second::vectors::BODY_HEAD, fragment.as_bytes(), second::vectors::BODY_TAIL].concat()
+    bytes_body(fragment.as_bytes())
+}
+
+/// The same, of a fragment that is no text.
+pub fn bytes_body(fragment: &[u8]) -> Vec<u8> {
+    [second::vectors::BODY_HEAD, fragment, second::vectors::BODY_TAIL].concat()
 }
 
 /// What a run of the program left.
