@@ -11,7 +11,7 @@ const VECTOR_LIMIT: usize = 4_200;
 const GENERATED_LIMIT: usize = 900;
 
 const SEEDS: std::ops::Range<u64> = 0..300;
-const CALLS: std::ops::Range<u64> = 0..600;
+const CALLS: std::ops::Range<u64> = 0..300;
 
 /// Prints a line even where the test passes.
 fn say(line: String) {
@@ -92,9 +92,9 @@ fn generated_first_names_agree() {
     assert!(made > 200 && in_families > 50, "{made} calls, {in_families} in a family");
 }
 
-/// Family lists over the bound in bytes that show how many families there may be, for the finder and for a
-/// first name: 256, and one more.
-const FULL_LISTS: [&str; 4] = ["2026-01.5.w13", "2026-01.5.w14", "2026-01.14.w18", "2026-01.14.w19"];
+/// Family lists over the bound in bytes that show how many families there may be, for the finder:
+/// 256, and one more. A first name by such a list is compared in routines/.
+const FULL_LISTS: [&str; 2] = ["2026-01.5.w13", "2026-01.5.w14"];
 
 #[test]
 fn full_family_lists_agree() {
