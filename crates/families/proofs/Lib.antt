@@ -1,3 +1,4 @@
 pub mod Putting
 pub mod Steps
 pub mod Turning
+pub mod Told

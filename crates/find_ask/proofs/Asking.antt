@@ -14,9 +14,9 @@ use borrow.Author.Tests.{lt-ltb, le-ltb, ltb-true, leb-true}
 use Rattle.rules.specs.Bytes.{if_then_else_, bytes, same}
 use Rattle.rules.specs.Answers.{isOver}
 use Rattle.rules.specs.Widths.{Line, linesFrom, behind, isListName}
-use Rattle.rules.specs.Families.{Family, namesOf, familyOf, FamilyList, illGrouped, grouped, familyList}
+use Rattle.rules.specs.Families.{Family, namesOf, familyOf, familyList}
 use Rattle.rules.specs.Find.{Gap, anyGap, noGap, someGap, Wanted, sought, Expected, firstGlyph, gapGlyph, either, Query, illFormed, wellFormed, queryEnds, withWanted, gapOf, mayPart, mayAsk, queryLine, queryLines, query}
-use Rattle.laws.proofs.Cases.{on, if-both, if-on, and-left, and-right, or-true}
+use Rattle.laws.proofs.Cases.{on, if-both, if-on, and-left, or-true}
 use Rattle.laws_find.specs.Occurs.{wantedAt}
 use Rattle.laws_find.proofs.Asked.{query-shape, shape-some}
 use Rattle.query.specs.declared.QueryAnswer.{QueryAnswer}
@@ -24,10 +24,11 @@ use Rattle.query.specs.declared.QueryAnswer.the-variants as Q
 use Rattle.name.specs.Part.{partOf}
 use Rattle.query.specs.Asked.{queryOf, gapNumber, LinesIn, LinesOf}
 use Rattle.families_table.specs.Table.{nameAt, namesAt, sizeAt, kinOf, familiesAt, Sized, ownerOf}
-use Rattle.families_table.proofs.Owners.{owner-kin, owner-small}
+use Rattle.families_table.proofs.Owners.{owner-kin}
 use Rattle.families.specs.declared.FamilyAnswer.{FamilyAnswer}
 use Rattle.families.specs.declared.FamilyAnswer.the-variants as G
-use Rattle.families.specs.Loading.{answerOf, Holds, LoadedAs, Loaded}
+use Rattle.families.specs.Loading.{answerOf, Loaded}
+use Rattle.families.proofs.Told.{told-wrong, told-held}
 use Rattle.find_match.specs.Match.{gapAt, soughtIn}
 use Rattle.find_ask.specs.declared.Asked.{Asked}
 use Rattle.find_ask.specs.Ask.{rowAt, RowGathered, LookedUp, RowPut, RowHolds, askedAt, AsksWith, AsksIn, AsksFor}
@@ -284,16 +285,6 @@ pub ruleset asking = (ask-ill, ask-few, ask-well, needs)
 
 -- ---- the family list before the query
 
-abbrev Groups : FamilyAnswer → FamilyList → Type 0
-Groups (G.IllGrouped o) (illGrouped at) = o ≡ at
-Groups (G.IllGrouped o) (grouped fs) = ⊥
-Groups (G.Grouped n) (illGrouped at) = ⊥
-Groups (G.Grouped n) (grouped fs) = n ≡ length fs
-
-groups : (y : FamilyList) → Groups (answerOf y) y
-groups (illGrouped at) = refl
-groups (grouped fs) = refl
-
 module _ (fl q : List ℕ) where
   pub ask-long : (rows : List ℕ) → 8192 < length q → length rows ≡ 4609 → AsksFor fl q (record { refusal = 1; offset = 0 }) rows
   ask-long rows h e = rw (or-true (isOver 65_536 fl) (isOver 8_192 q) (lt-ltb 8_192 (length q) h)) (refl, e)
@@ -301,40 +292,24 @@ module _ (fl q : List ℕ) where
   pub list-long : (rows : List ℕ) → 65536 < length fl → length rows ≡ 4609 → AsksFor fl q (record { refusal = 1; offset = 0 }) rows
   list-long rows h e = rw (lt-ltb 65_536 (length fl) h) (refl, e)
 
-  module _ (a : length q ≤ 8192) (b : length fl ≤ 65536) where
+  module _ (a : length q ≤ 8192) (b : length fl ≤ 65536) (x : FamilyAnswer) (e : x ≡ answerOf (familyList fl)) where
     within : (y : Asked) (rows : List ℕ) → AsksIn q fl y rows (familyList fl) → AsksFor fl q y rows
     within y rows k = rw (le-ltb 65_536 (length fl) b, le-ltb 8_192 (length q) a) k
 
-    module _ (x : FamilyAnswer) (e : x ≡ answerOf (familyList fl)) where
-      grouped-so : (z : FamilyAnswer) → x ≡ z → Groups z (familyList fl)
-      grouped-so z p = subst (λ (y : FamilyAnswer). Groups y (familyList fl)) (sym e ∙ p) (groups (familyList fl))
+    pub group-ill : (o : ℕ) (rows : List ℕ) → x ≡ G.IllGrouped o → Loaded fl rows (familyList fl) → AsksFor fl q (record { refusal = 14; offset = o }) rows
+    group-ill o rows p l = within (askedAt 14 o) rows (rw (told-wrong fl x e o p) (refl, l .0))
 
-      pub group-ill : (o : ℕ) (rows : List ℕ) → x ≡ G.IllGrouped o → Loaded fl rows (familyList fl) → AsksFor fl q (record { refusal = 14; offset = o }) rows
-      group-ill o rows p l = within (askedAt 14 o) rows (go (familyList fl) (grouped-so (G.IllGrouped o) p))
-        where
-          go : (y : FamilyList) → Groups (G.IllGrouped o) y → AsksIn q fl (askedAt 14 o) rows y
-          go (illGrouped at) t = (rw t, l .0)
-          go (grouped fs) t = absurd t
+    module _ (n : ℕ) (old : List ℕ) (p : x ≡ G.Grouped n) (l : Loaded fl old (familyList fl)) where
+      pub group-size : length old ≡ 4609
+      group-size = l .0
 
-      module _ (n : ℕ) (old : List ℕ) (p : x ≡ G.Grouped n) (l : Loaded fl old (familyList fl)) where
-        pub group-size : length old ≡ 4609
-        group-size = l .0
+      pub group-few : n ≤ 256
+      group-few = told-held fl x e n old p l .few
 
-        held : (y : FamilyList) → Groups (G.Grouped n) y → LoadedAs fl old y → (familiesAt fl old n ≡ familiesAt fl old n) × (n ≤ 256) × Sized old n
-        held (illGrouped at) t h = absurd t
-        held (grouped fs) t h = rw t (refl, h .few, h .sized)
+      pub group-sized : Sized old n
+      group-sized = told-held fl x e n old p l .sized
 
-        pub group-few : n ≤ 256
-        group-few = held (familyList fl) (grouped-so (G.Grouped n) p) (l .1) .1
-
-        pub group-sized : Sized old n
-        group-sized = held (familyList fl) (grouped-so (G.Grouped n) p) (l .1) .2
-
-        pub group-well : (y : Asked) (rows : List ℕ) → AsksWith (familiesAt fl old n) q fl y rows (query q) → AsksFor fl q y rows
-        group-well y rows k = within y rows (go (familyList fl) (grouped-so (G.Grouped n) p) (l .1))
-          where
-            go : (z : FamilyList) → Groups (G.Grouped n) z → LoadedAs fl old z → AsksIn q fl y rows z
-            go (illGrouped at) t h = absurd t
-            go (grouped fs) t h = subst (λ (gs : List Family). AsksWith gs q fl y rows (query q)) (ap (familiesAt fl old) t ∙ h .families) k
+      pub group-well : (y : Asked) (rows : List ℕ) → AsksWith (familiesAt fl old n) q fl y rows (query q) → AsksFor fl q y rows
+      group-well y rows k = within y rows (rw (told-held fl x e n old p l .list) k)
 
 pub ruleset grouping = (ask-long, list-long, group-ill, group-size, group-few, group-sized, group-well, needs)

@@ -4,24 +4,24 @@ use native.Mathlib.Omega.{arith}
 use mathlib.Core.Bool.{Bool, true, false, _&&_, false≢true}
 use mathlib.Core.List.{List, [], _∷_}
 use mathlib.Core.Option.{Option, none, some}
-use mathlib.Core.Path.{_≡_, refl, sym, ap, subst, _∙_}
-use lib.Dec.{ltb, leb, eqb}
+use mathlib.Core.Path.{_≡_, refl, sym, ap, _∙_}
+use lib.Dec.{ltb, leb}
 use lib.ListN.{length, take, drop, getD}
 use borrow.Author.Needs.{needs}
 use borrow.Author.Tests.{lt-ltb, le-ltb, le-leb, lt-leb, leb-true, leb-false}
-use Rattle.rules.specs.Bytes.{if_then_else_}
 use Rattle.rules.specs.declared.NamePart.{NamePart}
 use Rattle.rules.specs.declared.NamePart.the-variants as N
-use Rattle.rules.specs.Families.{Family, familyOf, FamilyList, illGrouped, grouped, familyList}
+use Rattle.rules.specs.Families.{Family, familyOf, familyList}
 use Rattle.rules.specs.Answers.{familiesIn, listed, ownOr, partFor, firstName, bytesOf}
 use Rattle.rules.specs.Calls.{NamePartCall, FirstNameCall}
-use Rattle.laws.proofs.Cases.{on, and-left}
+use Rattle.laws.proofs.Cases.{on}
 use Rattle.name.specs.Part.{partOf}
-use Rattle.families_table.specs.Table.{nameAt, familyAt, familiesAt, Sized, ownerOf}
-use Rattle.families_table.proofs.Owners.{owner-first, owner-none, owner-small}
+use Rattle.families_table.specs.Table.{familiesAt, Sized, ownerOf}
+use Rattle.families_table.proofs.Owners.{owner-first, owner-none}
 use Rattle.families.specs.declared.FamilyAnswer.{FamilyAnswer}
 use Rattle.families.specs.declared.FamilyAnswer.the-variants as A
-use Rattle.families.specs.Loading.{answerOf, LoadedAs, Loaded}
+use Rattle.families.specs.Loading.{answerOf, Loaded}
+use Rattle.families.proofs.Told.{told-wrong, told-held}
 use Rattle.first_name.specs.declared.First.{First}
 use Rattle.first_name.specs.First.{firstOf, liesIn}
 
@@ -33,80 +33,52 @@ module _ (fl tab own : List ℕ) (families k : ℕ) (o : k ≡ ownerOf own (fami
 
   module _ (n : k ≡ 0 → ⊥) (i : ℕ) (d : i ≡ (k - 1) * 8) where
     numbered : ownerOf own (familiesAt fl tab families) ≡ suc (k - 1)
-    numbered = sym o ∙ go k n
-      where
-        go : (m : ℕ) → (m ≡ 0 → ⊥) → m ≡ suc (m - 1)
-        go zero h = absurd (h refl)
-        go (suc m) h = omega arith
+    numbered = let m : k ≡ suc (k - 1) = omega (arith, n) in sym o ∙ m
 
     pub in-first : (p l : ℕ) (first : List ℕ) → p ≡ getD tab i 0 → l ≡ getD tab (2048 + i) 0 → first ≡ partOf fl p l
         → record { found = true; place = p; len = length first } ≡ firstOf (familyOf own (familiesAt fl tab families))
     in-first p l first a b c = rw (owner-first fl tab own families (k - 1) numbered, c, a, b, d)
 
     pub in-room : k ≤ families → families ≤ 256 → i + 8 ≤ 2048
-    in-room a b = go k n d a
-      where
-        go : (m : ℕ) → (m ≡ 0 → ⊥) → i ≡ (m - 1) * 8 → m ≤ families → i + 8 ≤ 2048
-        go zero h e l = absurd (h refl)
-        go (suc m) h e l = omega arith
+    in-room a b = omega (arith, n)
 
 pub ruleset in-table = (in-none, in-first, in-room, needs)
 
 -- ---- in the list
 
-abbrev Groups : FamilyAnswer → FamilyList → Type 0
-Groups (A.IllGrouped o) (illGrouped at) = o ≡ at
-Groups (A.IllGrouped o) (grouped fs) = ⊥
-Groups (A.Grouped n) (illGrouped at) = ⊥
-Groups (A.Grouped n) (grouped fs) = n ≡ length fs
-
-groups : (y : FamilyList) → Groups (answerOf y) y
-groups (illGrouped at) = refl
-groups (grouped fs) = refl
-
 module _ (fl own : List ℕ) where
-  pub of-long : (x : First) → 65536 < length fl → x ≡ firstOf none → x ≡ firstOf (familyOf own (listed fl))
-  unfolding listed familyOf
-  of-long x h e = rw (lt-ltb 65_536 (length fl) h) e
+  -- by families that are those of the list, as it counts here
+  by-list : (fs : List Family) (x : First) → listed fl ≡ fs → x ≡ firstOf (familyOf own fs) → x ≡ firstOf (familyOf own (listed fl))
+  by-list fs x e h = h ∙ ap (λ (gs : List Family). firstOf (familyOf own gs)) (sym e)
 
-  no-family : firstOf none ≡ firstOf (familyOf own [])
+  by-none : (x : First) → listed fl ≡ [] → x ≡ firstOf none → x ≡ firstOf (familyOf own (listed fl))
   unfolding familyOf
-  no-family = refl
+  by-none x e h = by-list [] x e h
+
+  pub of-long : (x : First) → 65536 < length fl → x ≡ firstOf none → x ≡ firstOf (familyOf own (listed fl))
+  unfolding listed
+  of-long x h e = by-none x (rw (lt-ltb 65_536 (length fl) h)) e
 
   module _ (b : length fl ≤ 65536) (y : FamilyAnswer) (e : y ≡ answerOf (familyList fl)) where
-    so : (z : FamilyAnswer) → y ≡ z → Groups z (familyList fl)
-    so z p = subst (λ (i : FamilyAnswer). Groups i (familyList fl)) (sym e ∙ p) (groups (familyList fl))
-
     listed-is : listed fl ≡ familiesIn (familyList fl)
     unfolding listed
     listed-is = rw (le-ltb 65_536 (length fl) b)
 
     pub of-wrong : (x : First) (o : ℕ) → y ≡ A.IllGrouped o → x ≡ firstOf none → x ≡ firstOf (familyOf own (listed fl))
-    of-wrong x o p h = h ∙ no-family ∙ ap (λ (fs : List Family). firstOf (familyOf own fs)) (sym (listed-is ∙ go (familyList fl) (so (A.IllGrouped o) p)))
-      where
-        go : (z : FamilyList) → Groups (A.IllGrouped o) z → familiesIn z ≡ []
-        go (illGrouped at) t = refl
-        go (grouped fs) t = absurd t
+    of-wrong x o p h = by-none x (listed-is ∙ ap familiesIn (told-wrong fl y e o p)) h
 
     module _ (n : ℕ) (tab : List ℕ) (p : y ≡ A.Grouped n) (l : Loaded fl tab (familyList fl)) where
-      held : (z : FamilyList) → Groups (A.Grouped n) z → LoadedAs fl tab z → (familiesAt fl tab n ≡ familiesIn z) × (n ≤ 256) × Sized tab n
-      held (illGrouped at) t h = absurd t
-      held (grouped fs) t h = (ap (familiesAt fl tab) t ∙ h .families, rw t (h .few), rw t (h .sized))
-
-      holds : (familiesAt fl tab n ≡ familiesIn (familyList fl)) × (n ≤ 256) × Sized tab n
-      holds = held (familyList fl) (so (A.Grouped n) p) (l .1)
-
       pub of-room : length tab ≡ 4609
       of-room = l .0
 
       pub of-few : n ≤ 256
-      of-few = holds .1
+      of-few = told-held fl y e n tab p l .few
 
       pub of-sized : Sized tab n
-      of-sized = holds .2
+      of-sized = told-held fl y e n tab p l .sized
 
       pub of-found : (x : First) → x ≡ firstOf (familyOf own (familiesAt fl tab n)) → x ≡ firstOf (familyOf own (listed fl))
-      of-found x h = h ∙ ap (λ (fs : List Family). firstOf (familyOf own fs)) (holds .0 ∙ sym listed-is)
+      of-found x h = by-list (familiesAt fl tab n) x (listed-is ∙ ap familiesIn (told-held fl y e n tab p l .list)) h
 
 pub ruleset in-list = (of-long, of-wrong, of-room, of-few, of-sized, of-found, needs)
 
@@ -119,19 +91,18 @@ module _ (n place len : ℕ) where
   pub lies-empty : len ≡ 0 → false ≡ liesIn n place len
   lies-empty e = rw e
 
-  pub lies-past : (len ≡ 0 → ⊥) → n < place → false ≡ liesIn n place len
-  lies-past z h = rw (lt-ltb 0 len (some len z), lt-leb (place + len) n (omega arith))
-    where
-      some : (k : ℕ) → (k ≡ 0 → ⊥) → 0 < k
-      some zero y = absurd (y refl)
-      some (suc k) y = omega arith
+  module _ (z : len ≡ 0 → ⊥) where
+    not-empty : ltb 0 len ≡ true
+    not-empty = lt-ltb 0 len (omega (arith, z))
 
-  pub lies-so : (len ≡ 0 → ⊥) → place ≤ n → leb len (n - place) ≡ liesIn n place len
-  lies-so z h = rw (lt-ltb 0 len (some len z)) (on (leb len (n - place)) (λ e. rw e (sym (le-leb (place + len) n (omega (arith, leb-true len (n - place) e))))) (λ e. rw e (sym (lt-leb (place + len) n (omega (arith, leb-false len (n - place) e))))))
-    where
-      some : (k : ℕ) → (k ≡ 0 → ⊥) → 0 < k
-      some zero y = absurd (y refl)
-      some (suc k) y = omega arith
+    pub lies-past : n < place → false ≡ liesIn n place len
+    lies-past h = rw (not-empty, lt-leb (place + len) n (omega arith))
+
+    pub lies-so : place ≤ n → leb len (n - place) ≡ liesIn n place len
+    lies-so h =
+        rw not-empty (on (leb len (n - place))
+        (λ e. rw e (sym (le-leb (place + len) n (omega (arith, leb-true len (n - place) e)))))
+        (λ e. rw e (sym (lt-leb (place + len) n (omega (arith, leb-false len (n - place) e))))))
 
 pub ruleset in-stream = (lies-empty, lies-past, lies-so, needs)
 

@@ -1,5 +1,4 @@
 use Rattle.capi_answers.proofs.Flattened.{flattening}
-use borrow.Author.Needs.{needs}
 use Rattle.capi_answers.proofs.flat_part.Statement.{statement}
 use Rattle.capi_answers.proofs.flat_part.Tie as tie
 use Rattle.capi_answers.proofs.flat_part.Reads as reads

@@ -1,5 +1,4 @@
 use Rattle.find_ask.proofs.Asking.{grouping}
-use borrow.Author.Needs.{needs}
 use Rattle.find_ask.proofs.ask.Statement.{statement}
 use Rattle.find_ask.proofs.ask.Tie as tie
 use Rattle.find_ask.proofs.ask.Reads as reads

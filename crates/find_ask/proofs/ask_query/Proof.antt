@@ -1,5 +1,4 @@
 use Rattle.find_ask.proofs.Asking.{asking}
-use borrow.Author.Needs.{needs}
 use Rattle.find_ask.proofs.ask_query.Statement.{statement}
 use Rattle.find_ask.proofs.ask_query.Tie as tie
 use Rattle.find_ask.proofs.ask_query.Reads as reads

@@ -1,5 +1,4 @@
 use Rattle.find_ask.proofs.Asking.{owning}
-use borrow.Author.Needs.{needs}
 use Rattle.find_ask.proofs.owner_of.Statement.{statement}
 use Rattle.find_ask.proofs.owner_of.Tie as tie
 use Rattle.find_ask.proofs.owner_of.Reads as reads

@@ -1,5 +1,4 @@
 use Rattle.find_ask.proofs.Asking.{putting}
-use borrow.Author.Needs.{needs}
 use Rattle.find_ask.proofs.put_query.Statement.{statement}
 use Rattle.find_ask.proofs.put_query.Tie as tie
 use Rattle.find_ask.proofs.put_query.Reads as reads

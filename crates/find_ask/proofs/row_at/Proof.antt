@@ -1,5 +1,4 @@
 use Rattle.find_ask.proofs.Asking.{gathering}
-use borrow.Author.Needs.{needs}
 use Rattle.find_ask.proofs.row_at.Statement.{statement}
 use Rattle.find_ask.proofs.row_at.Tie as tie
 use Rattle.find_ask.proofs.row_at.Reads as reads

@@ -1,5 +1,4 @@
 use Rattle.find_match.proofs.Tests.{name-tests}
-use borrow.Author.Needs.{needs}
 use Rattle.find_match.proofs.same_name.Statement.{statement}
 use Rattle.find_match.proofs.same_name.Tie as tie
 use Rattle.find_match.proofs.same_name.Reads as reads

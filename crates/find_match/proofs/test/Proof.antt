@@ -1,8 +1,4 @@
 use Rattle.find_match.proofs.Tests.{glyph-tests}
-use Rattle.find_match.proofs.wide.Reads as wide-reads
-use Rattle.name.proofs.name_at.Reads as name-at-reads
-use Rattle.scan_lex.proofs.same_bytes.Reads as same-bytes-reads
-use borrow.Author.Needs.{needs}
 use Rattle.find_match.proofs.test.Statement.{statement}
 use Rattle.find_match.proofs.test.Tie as tie
 use Rattle.find_match.proofs.test.Reads as reads

@@ -1,5 +1,4 @@
 use Rattle.first_name.proofs.Steps.{in-table}
-use borrow.Author.Needs.{needs}
 use Rattle.first_name.proofs.first_in.Statement.{statement}
 use Rattle.first_name.proofs.first_in.Tie as tie
 use Rattle.first_name.proofs.first_in.Reads as reads

@@ -1,5 +1,4 @@
 use Rattle.first_name.proofs.Steps.{bytes-of}
-use borrow.Author.Needs.{needs}
 use Rattle.first_name.proofs.first_name.Statement.{statement}
 use Rattle.first_name.proofs.first_name.Tie as tie
 use Rattle.first_name.proofs.first_name.Reads as reads

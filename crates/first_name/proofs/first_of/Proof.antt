@@ -1,5 +1,4 @@
 use Rattle.first_name.proofs.Steps.{in-list}
-use borrow.Author.Needs.{needs}
 use Rattle.first_name.proofs.first_of.Statement.{statement}
 use Rattle.first_name.proofs.first_of.Tie as tie
 use Rattle.first_name.proofs.first_of.Reads as reads

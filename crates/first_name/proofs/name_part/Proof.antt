@@ -1,5 +1,4 @@
 use Rattle.first_name.proofs.Steps.{parts}
-use borrow.Author.Needs.{needs}
 use Rattle.first_name.proofs.name_part.Statement.{statement}
 use Rattle.first_name.proofs.name_part.Tie as tie
 use Rattle.first_name.proofs.name_part.Reads as reads
