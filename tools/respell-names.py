@@ -18,7 +18,7 @@ import sys
 # A name; parts joined by dashes.
 NAME = re.compile(r"[^\W\d][\w'′·]*(?:-[\w'′·*+≤<∷]+)*")
 # A string, a comment to the line's end, or a name with the path before it.
-TOKEN = re.compile(r'"(?:[^"\\]|\\.)*"|--(?=\s|$).*|(?:[^\W\d][\w\'′·]*(?:-[\w\'′·*+≤<∷]+)*\.)*(?<![\w\)\]])\.?[^\W\d][\w\'′·]*(?:-[\w\'′·*+≤<∷]+)*|\.[^\W\d][\w\'′·]*(?:-[\w\'′·*+≤<∷]+)*')
+TOKEN = re.compile(r'"(?:[^"\\]|\\.)*"|--(?=\s|$).*|(?<![\w\s({\[,;.=])-[\w\'′·*+≤<∷-]+|(?<=[\s({,])-[^\W\d][\w\'′·]*(?:-[\w\'′·*+≤<∷]+)*|(?:[^\W\d][\w\'′·]*(?:-[\w\'′·*+≤<∷]+)*\.)*(?<![\w\)\]])\.?[^\W\d][\w\'′·]*(?:-[\w\'′·*+≤<∷]+)*|\.[^\W\d][\w\'′·]*(?:-[\w\'′·*+≤<∷]+)*')
 USE = re.compile(r"^(?:ghost )?(?:pub )?use ([\w.·'-]+?)(?:\.\{(.*)\}| as ([\w'-]+))?;?\s*$")
 # A signature; before the name may stand what kind of declaration it is.
 SIGNATURE = re.compile(r"^\s*(?:(?:abbrev|unfoldable|pub|private|opaque|instance) )*((?:[^\W\d][\w'′·-]*)(?: [^\W\d][\w'′·-]*)*) : ")
@@ -61,20 +61,18 @@ class Repository:
 
     def declarations(self, path):
         """The names that a file declares: labels of records, definitions (in specs/), and all."""
-        in_record = in_data = False
+        record = None  # how far in the record stands whose labels these lines are
         for line in self.text[path].split("\n"):
+            indent = len(line) - len(line.lstrip())
             if re.match(r"^\s*(?:pub )?record ", line):
-                in_record, in_data = True, False
+                record = indent
                 continue
-            if re.match(r"^\s*(?:pub )?data ", line):
-                in_record, in_data = False, True
-                continue
+            if line.strip() and record is not None and indent <= record:
+                record = None
             m = SIGNATURE.match(line)
-            if line and not line[0].isspace():
-                in_record = in_data = False
             if m:
                 names = m.group(1).split(" ")
-                if in_record:
+                if record is not None:
                     self.labels.update(names)
                 else:
                     self.declared.update(names)
@@ -126,6 +124,8 @@ class Repository:
         rust = path.endswith(".rt")
 
         def changes(name):
+            if "·" in name:  # a symbol of the compiler's
+                return False
             return "-" in name or (name in self.taken and not rust) or (name[:1].islower() and snake(name) != name)
 
         def named(name):
@@ -144,7 +144,7 @@ class Repository:
 
         def replaced(m):
             t = m.group(0)
-            if t.startswith('"'):
+            if t.startswith('"') or (t.startswith("-") and not t.startswith("--")):
                 return t
             if t.startswith("--"):
                 return re.sub(r"`([^`]*)`", lambda q: "`" + NAME.sub(lambda w: self.spelled(w.group(0)) if w.group(0) in self.declared and changes(w.group(0)) else w.group(0), q.group(1)) + "`", t)
@@ -176,7 +176,7 @@ class Repository:
                 seen = collections.defaultdict(set)
                 for m in TOKEN.finditer(re.sub(r"--(?=\s|$).*", "", self.text[p])):
                     t = m.group(0)
-                    if t.startswith(('"', "--", ".")) or "." in t:
+                    if t.startswith(('"', "-", ".")) or "." in t or "·" in t:
                         continue
                     seen[t if t in kit else self.label(t) if t in self.labels and t not in self.declared else self.spelled(t) if ("-" in t or t in self.taken or snake(t) != t) else t].add(t)
                 for new, olds in seen.items():

@@ -117,7 +117,7 @@ module _ (s q fl rows : List ℕ) (recs : List Record) (p₀ : Looked) where
         same = hits_length p.hits x.act ∙ kn.same;
       }
 
-  pub run_done : (k : ℕ) (p : Looked) → p.state.left ≤ 0 → search_for k s q fl rows recs p ≡ p
+  pub run-done : (k : ℕ) (p : Looked) → p.state.left ≤ 0 → search_for k s q fl rows recs p ≡ p
   unfolding search_for
-  run_done zero p h = refl
-  run_done (suc k) p h = rw (eq-eqb p.state.left 0 (omega arith))
+  run-done zero p h = refl
+  run-done (suc k) p h = rw (eq-eqb p.state.left 0 (omega arith))

@@ -274,9 +274,9 @@ module _ (s list fl q : List ℕ) (rs : List Record) (es : List Entry) (hs : Lis
       abbrev told : Found
       told = find_into (length rs) (length hs) s list fl q
 
-      told_refused : (k o : ℕ) → find s list fl q ≡ not_found k o → told ≡ not_found k o
+      told-refused : (k o : ℕ) → find s list fl q ≡ not_found k o → told ≡ not_found k o
       unfolding find_into
-      told_refused k o e = rw e
+      told-refused k o e = rw e
 
       -- refused before: it leaves all as it was
       module _ (o : Off s list fl q a ws₁) where
@@ -303,8 +303,8 @@ module _ (s list fl q : List ℕ) (rs : List Record) (es : List Entry) (hs : Lis
           (filling-sound s list rs es a ws₁ o.started p is p.state.entries 2 (λ z. impossible z) ws₂ u o.reads))
 
       -- what the filling pass asks
-      pub next_sound : P c
-      next_sound = case_next (begun_case s list fl q x rows a ws₁ asks h)
+      pub next-sound : P c
+      next-sound = case_next (begun_case s list fl q x rows a ws₁ asks h)
 
       module _ (p₂ : ReadPass) (ends : p₂ ≡ read_pass_of (find_in list c.fonts ws₂) s (pass_from c ws₂ p.records p.entries)) where
         abbrev Outcome : Type 0
@@ -316,7 +316,7 @@ module _ (s list fl q : List ℕ) (rs : List Record) (es : List Entry) (hs : Lis
             record { number = k; offset = o; state = ap (λ (i : ReadPass). i.state) b ∙ e; some = z; records = ap (λ (i : ReadPass). i.records) b ∙ r; answered = y }
 
         off_halts : Off s list fl q a ws₁ → Halt s list fl q rs hs p₂
-        off_halts o = halts o.number o.offset (off_next o) o.some (ap (λ (i : ReadPass). i.records) (off_pass o)) (told_refused o.number o.offset o.answered)
+        off_halts o = halts o.number o.offset (off_next o) o.some (ap (λ (i : ReadPass). i.records) (off_pass o)) (told-refused o.number o.offset o.answered)
 
         module _ (o : Asks s list fl q rows a ws₁) where
           abbrev said : Answer
@@ -417,7 +417,7 @@ module _ (s list fl q : List ℕ) (rs : List Record) (es : List Entry) (hs : Lis
                 (λ y. inr (done y z)))
 
           on_outcome : (y : Answer) → said ≡ y → Ended y (pass_from (begun s list rs es a ws₁ o.started p is o.bytes o.reads) ws₁ rs es) p → Outcome
-          on_outcome (refuse k j) e g = inl (halts k j (pass_refused k j g).0 (pass_refused k j g).1 kept (told_refused k j (o.answered ∙ rw e)))
+          on_outcome (refuse k j) e g = inl (halts k j (pass_refused k j g).0 (pass_refused k j g).1 kept (told-refused k j (o.answered ∙ rw e)))
           on_outcome (answer xs zs d) e g = accepted xs zs d e g
 
         case_outcome : Off s list fl q a ws₁ ⊎ Asks s list fl q rows a ws₁ → Outcome
@@ -493,14 +493,14 @@ module _ (s list fl q : List ℕ) (rs : List Record) (es : List Entry) (hs : Lis
                   (sym (looks ∙ ap (λ (i : Progress). search_of s q fl rows p₂.records (record { state = i; hits = hs })) (done_from o)))
                   (search_exact s q fl rows p₂.records (length o.glyphs) (length o.wanted) (enough o) hs (rw listed_is o.room) o.few o.holds.some o.holds.few)
 
-              done_finds : Answered told
-              done_finds =
+              done-finds : Answered told
+              done-finds =
                   subst Answered (sym o.answered)
                   (rw (o.clear, o.count, exact.1, listed_is), o.records, exact.0 ∙ ap (λ (i : List ℕ). over i hs) listed_is)
 
             case_finds : Outcome → Answered told
             case_finds (inl o) = halt_finds o
-            case_finds (inr o) = done_finds o
+            case_finds (inr o) = done-finds o
 
             -- and what is answered
             pub finds_as : (find_answer_of p₂.state l.state ≡ finding_of told) × (p₂.records ≡ records_found rs told) × (l.hits ≡ hits_over hs told)

@@ -379,9 +379,9 @@ module _ (s list fl q : List ℕ) (rs : List GlyphRow) (is : List ℕ) where
       record { families = fs; sound_families = f; wanted = qs; asked = e; accepted = p.0; records = p.1; hits = p.2 }
 
   -- a list of hits is given only where no input is too long and the width list is sound
-  found_sound : find s list fl q ≡ found rs is → SoundInputs s list
+  found-sound : find s list fl q ≡ found rs is → SoundInputs s list
   unfolding find
-  found_sound h =
+  found-sound h =
       on (is_over stream_most s) (λ k. no (ap is_found (rw k at h)))
       (λ k. on (is_over 65_536 list) (λ j. no (ap is_found (rw (k, j) at h)))
       (λ j. on (is_long fl q) (λ i. no (ap is_found (rw (k, j, i) at h))) (λ i. go k j (width_list list) refl (rw (k, j, i) at h))))
@@ -392,7 +392,7 @@ module _ (s list fl q : List ℕ) (rs : List GlyphRow) (is : List ℕ) where
 
 pub exactness : Exactness
 exactness s list fl q rs is h =
-    go (searched_if_lem s list fl q rs is (is_long fl q) (query q) (family_list fl) refl refl (sym (find-searched s list fl q (found_sound s list fl q rs is h)) ∙ h))
+    go (searched_if_lem s list fl q rs is (is_long fl q) (query q) (family_list fl) refl refl (sym (find-searched s list fl q (found-sound s list fl q rs is h)) ∙ h))
   where
     below : (fs : List Family) (qs : List Wanted) (i : ℕ) → 0 < length qs → OccursAt fs qs (map key_of rs) i → i < length rs
     below fs qs i p o = let e : i + length qs ≤ length (map key_of rs) = o.exist in omega (arith, length_keys rs)

@@ -245,7 +245,7 @@ module _ (r letters arguments : List ℕ) (bytes : 120 ∷ r ≡ letters ++ argu
       (if_both P (is "r" b) _ _ (word_laid_out (resolution_of (integers 3 k arguments)) (resolution_from k arguments (integers 3 k arguments) (counted 3 k arguments) (integers_laid 3 k arguments)))
       (if_both P (is "i" b) _ _ (alone_laid init refl)
       (if_both P (is "F" b) _ _ (name_laid file (λ n. refl))
-      (if_both P (is "f" b) _ _ (word_laid_out mounted (number_named k arguments (λ n m. just (mount n m)) position a_name (integers 1 k arguments) (λ m n. refl) (λ m. refl) (λ n w v h. h) (λ n h. h) (counted 1 k arguments) (integers_laid 1 k arguments)))
+      (if_both P (is "f" b) _ _ (word_laid_out mounted (number_named_lem k arguments (λ n m. just (mount n m)) position a_name (integers 1 k arguments) (λ m n. refl) (λ m. refl) (λ n w v h. h) (λ n h. h) (counted 1 k arguments) (integers_laid 1 k arguments)))
       (if_both P (is "H" b) _ _ (plain_laid height)
       (if_both P (is "S" b) _ _ (plain_laid slant)
       (if_both P (is "p" b) _ _ (plain_laid pause)
@@ -314,7 +314,7 @@ letter_laid b r =
     (dummy_from 1 r (any_number origin ∷ []) (1 ∷ []) by_t
     (named_from 1 r (word origin) a_word (any_number origin ∷ []) [] (1 ∷ []) [] 1 r (λ n. refl) (λ n w v h. h) (λ n h. h) tt (refl, refl)))) (λ z.
     if_on P (is "u" b) _ _ (all 117 (with_dummy by_u) (refl, refl, refl) (λ xs. refl) (dummy_from 1 r [] [] by_u
-    (number_named 1 r word any_number a_word (integers 1 1 r) (λ m n. refl) (λ m. refl) (λ n w v h. h) (λ n h. h) (counted 1 1 r) (integers_laid 1 1 r)))) (λ z.
+    (number_named_lem 1 r word any_number a_word (integers 1 1 r) (λ m n. refl) (λ m. refl) (λ n w v h. h) (λ n h. h) (counted 1 1 r) (integers_laid 1 1 r)))) (λ z.
     if_on P (is "H" b) _ _ (one 72 (to across) (refl, refl, refl) (λ xs. refl) (λ m. (refl, tt))) (λ z.
     if_on P (is "h" b) _ _ (one 104 (by across) (refl, refl, refl) (λ xs. refl) (λ m. (refl, tt))) (λ z.
     if_on P (is "V" b) _ _ (one 86 (to down) (refl, refl, refl) (λ xs. refl) (λ m. (refl, tt))) (λ z.

@@ -228,13 +228,13 @@ module _ (k : ℕ) (r : List ℕ) where
         laid = laid_append k r xs (g n ∷ []) js (a ∷ []) l t (a + string u) (drop (string u) u) h (one_laid l t (g n) a (a + string u) (drop (string u) u) (string_begins l t (g n) z (s n)));
       })
 
-  pub number_named : (f : ℕ → List ℕ → Cmd) (q : ℕ → Argument) (g : List ℕ → Argument) (x : Nums) → ((m : ℕ) (n : List ℕ) → cmd_arguments (f m n) ≡ q m ∷ (g n ∷ []))
+  pub number_named_lem : (f : ℕ → List ℕ → Cmd) (q : ℕ → Argument) (g : List ℕ → Argument) (x : Nums) → ((m : ℕ) (n : List ℕ) → cmd_arguments (f m n) ≡ q m ∷ (g n ∷ []))
       → ((m : Num) → Numbered (q (moved m)) m) → ((n w v : List ℕ) → StringIs n w v → ArgumentIs (g n) w v) → ((n : List ℕ) → IsText (g n) → ⊥)
       → NumsAre (λ ns. length ns ≡ 1) x → NumsLaid k r x → From k r [] [] (number_named f x)
-  number_named f q g short e o s p c h = tt
-  number_named f q g (nums [] ks l t) e o s p c h = tt
-  number_named f q g (nums (n ∷ m ∷ ns) ks l t) e o s p c h = absurd (omega (arith, c))
-  number_named f q g (nums (n ∷ []) ks l t) e o s p c h =
+  number_named_lem f q g short e o s p c h = tt
+  number_named_lem f q g (nums [] ks l t) e o s p c h = tt
+  number_named_lem f q g (nums (n ∷ m ∷ ns) ks l t) e o s p c h = absurd (omega (arith, c))
+  number_named_lem f q g (nums (n ∷ []) ks l t) e o s p c h =
       let xs : List Argument = q (moved n) ∷ [] in
       let like : Like xs (n ∷ []) = (o n, tt) in
       named_from (f (moved n)) g [] xs [] ks l t (e (moved n)) s p (like_no_text xs (n ∷ []) like) (like_laid k r (n ∷ []) xs ks l t like h)

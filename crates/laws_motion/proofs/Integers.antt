@@ -52,7 +52,7 @@ swap a o s k =
 pub more_sums : (k x n : ℕ) (s : ℤ) → Sums k n s → Sums (suc k) (x + n) (shown x +ℤ s)
 more_sums k x n s h =
     let e : k * origin + origin ≡ suc k * origin = omega arith in
-    ap (λ (z : ℤ). z +ℤ pos n) (sym (-ℤ_+ℤ_cancel (pos x) (pos origin))) ∙ ap (λ (z : ℤ). (shown x +ℤ pos origin) +ℤ z) h
+    ap (λ (z : ℤ). z +ℤ pos n) (sym (-ℤ-+ℤ_cancel (pos x) (pos origin))) ∙ ap (λ (z : ℤ). (shown x +ℤ pos origin) +ℤ z) h
     ∙ swap (shown x) (pos origin) s (pos (k * origin)) ∙ ap (λ (m : ℕ). (shown x +ℤ s) +ℤ pos m) e
 
 -- a number alone

@@ -38,11 +38,11 @@ module _ (at : ℕ) (c : Command) (i : CommandIn at 16777216 c) where
     drawn : CommandIn at 16777216 (C.Draw b x y k q)
     drawn = subst (CommandIn at 16777216) g i
 
-    pub draw_across : x ≤ k * (2 * origin)
-    draw_across = drawn.1
+    pub draw-across : x ≤ k * (2 * origin)
+    draw-across = drawn.1
 
-    pub draw_down : y ≤ k * (2 * origin)
-    draw_down = drawn.2
+    pub draw-down : y ≤ k * (2 * origin)
+    draw-down = drawn.2
 
     pub draw_terms : k ≤ 64
     draw_terms = drawn.3
@@ -88,4 +88,4 @@ others e at (C.Refused i p) h = refl
 pub by_other : (e : Environment) (at : ℕ) (c : Command) (r : Did) → OneOf other_tags (tag_of T.the_type c) → r ≡ refusing e 7 → r ≡ drawn_at e at c
 by_other e at c r k f = f ∙ others e at c k
 
-pub ruleset arms = (draw_spans, gray_spans, fill_spans, draw_across, draw_down, draw_terms, by_fill, by_command, by_other, rules)
+pub ruleset arms = (draw_spans, gray_spans, fill_spans, draw-across, draw-down, draw_terms, by_fill, by_command, by_other, rules)

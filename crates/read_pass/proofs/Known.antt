@@ -118,16 +118,16 @@ module _ (list s : List ℕ) (p₀ : ReadPass) where
       entries_same = entries_length p.entries x.effect ∙ kn.entries_same;
     }
 
-  pub run_done : (k : ℕ) (p : ReadPass) → p.state.left ≤ 0 → read_pass_for k find₀ s p ≡ p
+  pub run-done : (k : ℕ) (p : ReadPass) → p.state.left ≤ 0 → read_pass_for k find₀ s p ≡ p
   unfolding read_pass_for
-  run_done zero p h = refl
-  run_done (suc k) p h = rw (eq-eqb p.state.left 0 (omega arith))
+  run-done zero p h = refl
+  run-done (suc k) p h = rw (eq-eqb p.state.left 0 (omega arith))
 
   -- ---- the end of a pass
 
   over_known : (k : ℕ) (p : ReadPass) → Known k p → p.state.left ≤ 0 → Known 0 p
   over_known k p kn h = record {
-    runs = run_done 0 p h ∙ sym (run_done k p h) ∙ kn.runs;
+    runs = run-done 0 p h ∙ sym (run-done k p h) ∙ kn.runs;
     few = h;
     scratch = kn.scratch;
     kept = kn.kept;
@@ -142,11 +142,11 @@ module _ (list s : List ℕ) (p₀ : ReadPass) where
   }
 
   ends_known : (k : ℕ) (p : ReadPass) → Known k p → Known 0 (read_pass_for k find₀ s p)
-  ends_known zero p kn = rw (run_done 0 p kn.few) kn
+  ends_known zero p kn = rw (run-done 0 p kn.few) kn
   ends_known (suc k) p kn = go p.state.left refl (λ q kq. ends_known k q kq)
     where
       go : (m : ℕ) → p.state.left ≡ m → ((q : ReadPass) → Known k q → Known 0 (read_pass_for k find₀ s q)) → Known 0 (read_pass_for (suc k) find₀ s p)
-      go zero e more = rw (run_done (suc k) p (omega arith)) (over_known (suc k) p kn (omega arith))
+      go zero e more = rw (run-done (suc k) p (omega arith)) (over_known (suc k) p kn (omega arith))
       go (suc m) e more =
           let h : 0 < p.state.left = omega arith in
           let x : Turned = turn_of s p.scratch p.state in

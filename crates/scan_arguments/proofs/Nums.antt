@@ -146,30 +146,30 @@ module _ (s : List ℕ) where
       go no_int = refl
       go (int a l) = two_more a (behind s at) (ints s 1 (behind s at + l)) (one_nums (behind s at + l))
 
-  pub three_nums : (at : ℕ) → ThreeNums s (ints s 3 at) (three_at s at)
+  pub three-nums : (at : ℕ) → ThreeNums s (ints s 3 at) (three_at s at)
   unfolding three_at two_at
-  three_nums at = rw (ints_more s at 2) (go (integer (drop (behind s at) s)))
+  three-nums at = rw (ints_more s at 2) (go (integer (drop (behind s at) s)))
     where
       go : (x : Int) → ThreeNums s (then_at (behind s at) (ints s 2) x) (three_of (then_at (behind s at) (ints s 2) x))
       go no_int = refl
       go (int a l) = three_more a (behind s at) (ints s 2 (behind s at + l)) (two_nums (behind s at + l))
 
-  pub four_nums : (at : ℕ) → FourNums s (ints s 4 at) (four_at s at)
+  pub four-nums : (at : ℕ) → FourNums s (ints s 4 at) (four_at s at)
   unfolding four_at three_at
-  four_nums at = rw (ints_more s at 3) (go (integer (drop (behind s at) s)))
+  four-nums at = rw (ints_more s at 3) (go (integer (drop (behind s at) s)))
     where
       go : (x : Int) → FourNums s (then_at (behind s at) (ints s 3) x) (four_of (then_at (behind s at) (ints s 3) x))
       go no_int = refl
-      go (int a l) = four_more a (behind s at) (ints s 3 (behind s at + l)) (three_nums (behind s at + l))
+      go (int a l) = four_more a (behind s at) (ints s 3 (behind s at + l)) (three-nums (behind s at + l))
 
-  perhaps_of : (x : Nums) → OneNums s x (one_of x) → PerhapsNums s x (perhaps_of x)
-  perhaps_of short h = refl
-  perhaps_of (nums [] ks l t) h = let z : ◌≡◌ {A = ℕ} 0 1 = cc in absurd (omega arith)
-  perhaps_of (nums (a ∷ ns) ks l t) h = h
+  perhaps_of_lem : (x : Nums) → OneNums s x (one_of x) → PerhapsNums s x (perhaps_of x)
+  perhaps_of_lem short h = refl
+  perhaps_of_lem (nums [] ks l t) h = let z : ◌≡◌ {A = ℕ} 0 1 = cc in absurd (omega arith)
+  perhaps_of_lem (nums (a ∷ ns) ks l t) h = h
 
   pub perhaps_nums : (at : ℕ) → PerhapsNums s (perhaps_integer at (drop at s)) (perhaps_at s at)
   unfolding perhaps_at perhaps_integer one_at
-  perhaps_nums at = on (is_present (unspaced (drop at s))) (λ e. rw e (perhaps_of (ints s 1 at) (one_nums at))) (λ e. rw e refl)
+  perhaps_nums at = on (is_present (unspaced (drop at s))) (λ e. rw e (perhaps_of_lem (ints s 1 at) (one_nums at))) (λ e. rw e refl)
 
   -- what stands behind integers that were read at a place
   pub rest_at : (at : ℕ) (r : List ℕ) (l : ℕ) (t : List ℕ) → r ≡ drop at s → Reach at r l t → t ≡ drop l s

@@ -65,7 +65,7 @@ module _ (s : List ℕ) (at k : ℕ) where
   two_shape = rw (← (integers_shift 2 at k (drop (at + k) s))) (two_nums s (at + k))
 
   pub three-shape : ThreeNums s (shifted at (integers 3 k (drop (at + k) s))) (three_at s (at + k))
-  three-shape = rw (← (integers_shift 3 at k (drop (at + k) s))) (three_nums s (at + k))
+  three-shape = rw (← (integers_shift 3 at k (drop (at + k) s))) (three-nums s (at + k))
 
 -- an answer, or a refusal of the argument that begins at a place
 abbrev pub answered : Command → Option ℕ → Command

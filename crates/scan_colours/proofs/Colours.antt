@@ -64,7 +64,7 @@ module _ (c : Scheme) (s : List ℕ) (j : ℕ) where
 
   three_are : components c ≡ 3 → three_components (scheme_letter c) s j ≡ components_of c (integers (components c) j (drop j s))
   unfolding three_components
-  three_are e = rw e (go (three_at s j) (three_nums s j))
+  three_are e = rw e (go (three_at s j) (three-nums s j))
     where
       go : (q : Three) → ThreeNums s (ints s 3 j) q → three_by (scheme_letter c) q ≡ components_of c (ints s 3 j)
       go C.Short h = rw h
@@ -73,7 +73,7 @@ module _ (c : Scheme) (s : List ℕ) (j : ℕ) where
 
   four_are : components c ≡ 4 → four_components (scheme_letter c) s j ≡ components_of c (integers (components c) j (drop j s))
   unfolding four_components
-  four_are e = rw e (go (four_at s j) (four_nums s j))
+  four_are e = rw e (go (four_at s j) (four-nums s j))
     where
       go : (q : Four) → FourNums s (ints s 4 j) q → four_by (scheme_letter c) q ≡ components_of c (ints s 4 j)
       go D.Short h = rw h

@@ -148,7 +148,7 @@ module _ (s : List ℕ) (at i : ℕ) where
   -- four integers
   four_are : four_drawn 97 s at i ≡ placed_of at (closed (with_all (draw arc) (ints s 4 i)))
   unfolding four_drawn
-  four_are = go (four_at s i) (four_nums s i)
+  four_are = go (four_at s i) (four-nums s i)
     where
       go : (q : Four) → FourNums s (ints s 4 i) q → four_by 97 s at q ≡ placed_of at (closed (with_all (draw arc) (ints s 4 i)))
       go D.Short h = rw h

@@ -1,30 +1,30 @@
 -- Names by the bytes that may stand in them (2026-06): a string is clear where these bytes reach up to its end.
-use Prim.Native.Nat.{ℕ, suc, _+_, _-_, _≤_, _<_}
+use Prim.Native.Nat.{ℕ, suc, ◌+◌, ◌-◌, ◌≤◌, ◌<◌}
 use native.Mathlib.Omega.{arith}
-use mathlib.Core.Bool.{not, _&&_, and-false}
-use mathlib.Core.List.{List, [], _∷_}
-use mathlib.Core.Path.{_≡_, refl, sym, ap, _∙_}
-use borrow.Author.Needs.{needs}
-use borrow.Author.Tests.{le-leb, lt-leb, leb-true, leb-false, ltb-true, ltb-false, ne-eqb}
-use lib.Dec.{eqb, ltb, leb, leb·suc-suc, eqb·suc-suc}
+use mathlib.Core.Bool.{not, ◌&&◌, and-false}
+use mathlib.Core.List.{List, [], ◌∷◌}
+use mathlib.Core.Path.{◌≡◌, refl, sym, ap, ◌∙◌}
+use borrow.Author.Rules.{rules}
+use borrow.Author.Tests.{le-leb, lt-leb, leb-true, leb-false, ltb-true, ltb-false, ne_eqb}
+use lib.Dec.{eqb, ltb, leb, leb-suc-suc, eqb-suc-suc}
 use lib.ListN.{length, take, drop}
 use lib.Seq.{drop-drop}
-use Rattle·rules.specs.Bytes.{span, isWhite, isNotWhite, isBarred, isClear}
-use Rattle·laws.proofs.Cases.{on, no}
-use Rattle·scan_lex·specs.specs.At.{runEnd, isNameByte}
+use Rattle.rules.specs.Bytes.{span, is_white, is_not_white, is_barred, is_clear}
+use Rattle.laws.proofs.Cases.{on, no}
+use Rattle.scan_lex.specs.At.{run_end, is_name_byte}
 
 -- ---- one byte
 
-pub name_byte : (b : ℕ) → (ltb 32 b && not (eqb b 127)) ≡ isNameByte b
+pub name_byte : (b : ℕ) → (ltb 32 b && not (eqb b 127)) ≡ is_name_byte b
 name_byte b =
     on (ltb 32 b)
     (λ h.
     let l : 32 < b = ltb-true 32 b h in
-    rw (h, ne-eqb b 32 (λ e. omega arith), ne-eqb b 9 (λ e. omega arith), ne-eqb b 10 (λ e. omega arith), lt-leb b 8 (omega arith), lt-leb b 31 (omega arith), and-false (leb 11 b)))
+    rw (h, ne_eqb b 32 (λ e. omega arith), ne_eqb b 9 (λ e. omega arith), ne_eqb b 10 (λ e. omega arith), lt-leb b 8 (omega arith), lt-leb b 31 (omega arith), and-false (leb 11 b)))
     (λ h.
     let l : b ≤ 32 = ltb-false 32 b h in
     rw h
-    (on (isWhite b)
+    (on (is_white b)
     (λ w. rw w)
     (λ w.
     let n : (b ≡ 32 → ⊥) × (b ≡ 9 → ⊥) × (b ≡ 10 → ⊥) = (λ e. no (sym w ∙ rw e), λ e. no (sym w ∙ rw e), λ e. no (sym w ∙ rw e)) in
@@ -33,50 +33,50 @@ name_byte b =
 -- ---- a string
 
 -- the bytes of a name, and what is left of the string behind them, are the string
-span-behind : (r : List ℕ) → span isNameByte r + span isNotWhite (drop (span isNameByte r) r) ≡ span isNotWhite r
+span-behind : (r : List ℕ) → span is_name_byte r + span is_not_white (drop (span is_name_byte r) r) ≡ span is_not_white r
 unfolding span
 span-behind [] = refl
 span-behind (b ∷ r) =
-    on (isNotWhite b)
-    (λ h. on (isBarred b) (λ k. rw (h, k, h) (omega arith)) (λ k. rw (h, k) (omega (arith, span-behind r))))
+    on (is_not_white b)
+    (λ h. on (is_barred b) (λ k. rw (h, k, h) (omega arith)) (λ k. rw (h, k) (omega (arith, span-behind r))))
     (λ h. rw (h, h) (omega arith))
 
 -- where no byte of it is barred, they reach up to its end
-span_clear : (r : List ℕ) → isClear (take (span isNotWhite r) r) ≡ leb (span isNotWhite r) (span isNameByte r)
+span_clear : (r : List ℕ) → is_clear (take (span is_not_white r) r) ≡ leb (span is_not_white r) (span is_name_byte r)
 unfolding span
 span_clear [] = refl
 span_clear (b ∷ r) =
-    on (isNotWhite b)
-    (λ h. on (isBarred b) (λ k. rw (h, k, lt-leb (suc (span isNotWhite r)) 0 (omega arith))) (λ k. rw (h, k, leb·suc-suc) (span_clear r)))
+    on (is_not_white b)
+    (λ h. on (is_barred b) (λ k. rw (h, k, lt-leb (suc (span is_not_white r)) 0 (omega arith))) (λ k. rw (h, k, leb-suc-suc) (span_clear r)))
     (λ h. rw (h, le-leb 0 0 (omega arith)))
 
 -- a text that is one
-pub clear_whole : (t : List ℕ) → eqb (span isNameByte t) (length t) ≡ (eqb (span isNotWhite t) (length t) && isClear t)
+pub clear_whole : (t : List ℕ) → eqb (span is_name_byte t) (length t) ≡ (eqb (span is_not_white t) (length t) && is_clear t)
 unfolding span
 clear_whole [] = refl
 clear_whole (b ∷ t) =
-    on (isNotWhite b)
+    on (is_not_white b)
     (λ h.
-    on (isBarred b)
-    (λ k. rw (h, k, and-false, ne-eqb 0 (suc (length t)) (λ e. omega arith)))
-    (λ k. rw (h, k, eqb·suc-suc, eqb·suc-suc) (clear_whole t)))
-    (λ h. rw (h, ne-eqb 0 (suc (length t)) (λ e. omega arith)))
+    on (is_barred b)
+    (λ k. rw (h, k, and-false, ne_eqb 0 (suc (length t)) (λ e. omega arith)))
+    (λ k. rw (h, k, eqb-suc-suc, eqb-suc-suc) (clear_whole t)))
+    (λ h. rw (h, ne_eqb 0 (suc (length t)) (λ e. omega arith)))
 
 -- ---- at a place: p is where the string begins, q where its bytes are no longer those of a name, and e where it ends
 
-module _ (s : List ℕ) (p q e : ℕ) (g : q ≡ runEnd isNameByte s p) (h : e ≡ runEnd isNotWhite s q) where
-  pub string_ends : e ≡ runEnd isNotWhite s p
-  unfolding runEnd
-  string_ends = omega (arith, span-behind (drop p s), ap (λ (r : List ℕ). span isNotWhite r) (drop-drop (span isNameByte (drop p s)) p s), g, h, ap (λ (i : ℕ). span isNotWhite (drop i s)) g)
+module _ (s : List ℕ) (p q e : ℕ) (g : q ≡ run_end is_name_byte s p) (h : e ≡ run_end is_not_white s q) where
+  pub string_ends : e ≡ run_end is_not_white s p
+  unfolding run_end
+  string_ends = omega (arith, span-behind (drop p s), ap (λ (r : List ℕ). span is_not_white r) (drop-drop (span is_name_byte (drop p s)) p s), g, h, ap (λ (i : ℕ). span is_not_white (drop i s)) g)
 
-  pub string_clear : isClear (take (e - p) (drop p s)) ≡ leb e q
-  unfolding runEnd
+  pub string_clear : is_clear (take (e - p) (drop p s)) ≡ leb e q
+  unfolding run_end
   string_clear =
-      let n : e - p ≡ span isNotWhite (drop p s) = omega (arith, string_ends) in
+      let n : e - p ≡ span is_not_white (drop p s) = omega (arith, string_ends) in
       rw (n, span_clear (drop p s)) (
       on (leb e q)
-      (λ l. rw (l, le-leb (span isNotWhite (drop p s)) (span isNameByte (drop p s)) (omega (arith, leb-true e q l, string_ends))))
-      (λ l. rw (l, lt-leb (span isNotWhite (drop p s)) (span isNameByte (drop p s)) (omega (arith, leb-false e q l, string_ends))))
+      (λ l. rw (l, le-leb (span is_not_white (drop p s)) (span is_name_byte (drop p s)) (omega (arith, leb-true e q l, string_ends))))
+      (λ l. rw (l, lt-leb (span is_not_white (drop p s)) (span is_name_byte (drop p s)) (omega (arith, leb-false e q l, string_ends))))
       )
 
-pub ruleset names = (name_byte, needs)
+pub ruleset names = (name_byte, rules)

@@ -1,27 +1,24 @@
 -- The runs of bytes of document 01 ("Bytes, spaces, numbers") at a place of a list, as the scanners answer them: places are those of
 -- the list.
-use Prim.Native.Nat.{ℕ, _+_}
-use mathlib.Core.Bool.{Bool, not, _&&_}
-use mathlib.Core.List.{List}
-use lib.ListN.{drop, getD}
-use Rattle·rules.specs.Bytes.{if_then_else_, is, isWhite, isNotWhite, isBarred, span, oneLine}
-use Rattle·rules.specs.Drawing.{lineEnds}
+use Rattle.std.specs.Prelude.{ℕ, ◌+◌, Bool, not, ◌&&◌, List, drop, get_or}
+use Rattle.rules.specs.Bytes.{if◌then◌else◌, is, is_white, is_not_white, is_barred, span, one_line}
+use Rattle.rules.specs.Drawing.{line_ends}
 
 unfoldable pub run_end : (ℕ → Bool) → List ℕ → ℕ → ℕ
 run_end p s at = at + span p (drop at s)
 
 -- a byte that may stand in a name: it is neither whitespace nor barred (2026-06)
 abbrev pub is_name_byte : ℕ → Bool
-is_name_byte b = isNotWhite b && not (isBarred b)
+is_name_byte b = is_not_white b && not (is_barred b)
 
 -- the place behind what stands between commands at a place: a byte of whitespace, or a comment up to its newline; where neither
 -- stands it is the place itself
 unfoldable pub blank_at : List ℕ → ℕ → ℕ
 blank_at s at =
-    if isWhite (getD s at 0) then at + 1 else
-    if is "#" (getD s at 0) then at + 1 + oneLine (drop (at + 1) s) else
+    if is_white (get_or s at 0) then at + 1 else
+    if is "#" (get_or s at 0) then at + 1 + one_line (drop (at + 1) s) else
     at
 
 -- the line breaks at a place, perhaps behind a spacer and a comment
 unfoldable pub breaks_at : List ℕ → ℕ → Bool
-breaks_at s at = lineEnds (drop at s)
+breaks_at s at = line_ends (drop at s)

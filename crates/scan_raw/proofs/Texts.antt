@@ -129,8 +129,8 @@ module _ (s : List ℕ) (at i len k : ℕ) (g : Going s at i len) (e : k ≡ ste
       pub place_fits : Fits w64 (i + k)
       place_fits = omega (arith, text_in_lem)
 
-      pub length_fits : Fits w64 (len + 1)
-      length_fits = omega (arith, text_in_lem, g.fewer)
+      pub length-fits : Fits w64 (len + 1)
+      length-fits = omega (arith, text_in_lem, g.fewer)
 
 -- ---- the control
 
@@ -138,4 +138,4 @@ pub raw_is : (s : List ℕ) (i p : ℕ) (t : Text) (r : Command) → p ≡ run_e
 unfolding raw_at
 raw_is s i p t r g h f = rw (f, h, ← g)
 
-pub ruleset texts = (step_over, step_byte, step_plus, step_end, text-start, text-stop, text_more, text_less, place_fits, length_fits, raw_is, rules)
+pub ruleset texts = (step_over, step_byte, step_plus, step_end, text-start, text-stop, text_more, text_less, place_fits, length-fits, raw_is, rules)

@@ -102,7 +102,7 @@ module _ (D : Declared) where
     params = 4;
     locals = local TO'.mir value_local ∷ local row_ty value_local ∷ local str_ty value_local ∷ local word value_local ∷ local TO'.mir value_local ∷ local word value_local ∷ local TO'.mir value_local ∷ local word value_local ∷ local τ value_local ∷ local word value_local ∷ local ty_bool value_local ∷ [];
     body = seq (assign (place 9 []) (rv_opd (copy (place 1 (field 1 ∷ [])))))
-        (seq (call #small_row·least (copy (place 3 []) ∷ copy (place 9 []) ∷ []) (place 5 []))
+        (seq (call #small-row·least (copy (place 3 []) ∷ copy (place 9 []) ∷ []) (place 5 []))
         (seq (assign (place 6 []) (rv_opd (copy (place 4 []))))
         (seq (assign (place 7 []) (rv_opd (int w64 0)))
         (seq (block (loop (turn_of get line))) rest))));
@@ -190,7 +190,7 @@ module _ (D : Declared) (L : LL.Laws D) (pl : Plains (fields D)) (d : D.D) {M : 
       qed 𝓛 ((‵ (flft κ₁ q₁) ⊛ ‵ Str) ∷ ‵ ((row D).own r (gv r ∷ [])) ∷ ‵ ((TO.the_row).own_val o (ov o ∷ [])) ∷ []) ∵ suffices ! _ (silent 𝓤 _) $ split ! $ nothing ! $ move ! (1 ∷ 0 ∷ []) $ join ! $ frame ! $
       nothing ! $ move ! (3 ∷ 0 ∷ []) $ fjoin ! $ move ! (2 ∷ 0 ∷ []) $ fjoin ! $ move ! (1 ∷ 0 ∷ []) $ fjoin ! $ done !
 
-  module _ (𝓣 : Tables 𝓤 H) (get line : Name) (known_least : Triple 𝓤 (𝓣.C #small_row·least) (Least D 𝓛 mem run)) (known_get : Triple 𝓤 (𝓣.C get) (Get D 𝓛 d)) (known_line : Triple 𝓤 (𝓣.C line) (Line D 𝓛))
+  module _ (𝓣 : Tables 𝓤 H) (get line : Name) (known_least : Triple 𝓤 (𝓣.C #small-row·least) (Least D 𝓛 mem run)) (known_get : Triple 𝓤 (𝓣.C get) (Get D 𝓛 d)) (known_line : Triple 𝓤 (𝓣.C line) (Line D 𝓛))
       (r_fits : length rs < 2 ^ 64) (s_fits : length ss < 2 ^ 64) (n_fits : n < 2 ^ 64) (is₁ : Is TO.the_row first_out (ov first_out ∷ [])) where
     abbrev C : Calls 𝓤 H
     C = 𝓣.C
@@ -302,7 +302,7 @@ module _ (D : Declared) (L : LL.Laws D) (pl : Plains (fields D)) (d : D.D) {M : 
 
 module _ (D : Declared) (L : LL.Laws D) (pl : Plains (fields D)) (d : D.D) where
   pub print_meets : {M : Type 1} {𝓤 : Ura M} (𝓛 : Logic 𝓤) (mem : Memory → SProp 𝓤) (run : Routine → Fun 𝓤) (𝓣 : Tables 𝓤 𝓛.H) (get line : Name)
-      → Triple 𝓤 (𝓣.C #small_row·least) (Least D 𝓛 mem run) → Triple 𝓤 (𝓣.C get) (Get D 𝓛 d) → Triple 𝓤 (𝓣.C line) (Line D 𝓛)
+      → Triple 𝓤 (𝓣.C #small-row·least) (Least D 𝓛 mem run) → Triple 𝓤 (𝓣.C get) (Get D 𝓛 d) → Triple 𝓤 (𝓣.C line) (Line D 𝓛)
       → Meets 𝓛 (print_ended D).signature (WpFn 𝓤 𝓛.H 𝓣.C 𝓣.Λ (print_fn D get line)) (closing 𝓛 (print_ended D) (unstated 𝓤 (print_ended D)))
   print_meets {𝓤 = 𝓤} 𝓛 mem run 𝓣 get line known_least known_get known_line =
       walk_Meets 𝓛 (print_ended D) (stayed D) (Goes-none_slice 𝓛 2 (0 ∷ []) tt (plain (λ _. row D)) yes, (Goes-none_slice 𝓛 2 (1 ∷ []) tt (plain (λ _. u8)) yes, (Goes-none 𝓛 2 (λ _. usize) yes (λ _ _ _. refl), (Goes-none 𝓛 2 (λ _. TO.the_row) yes (λ _ _ _. refl), tt)))) (unstated 𝓤 (print_ended D))

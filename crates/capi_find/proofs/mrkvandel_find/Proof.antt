@@ -185,7 +185,7 @@ module _ {M : Type 1} {𝓤 : Ura M} (𝓛 : Logic 𝓤) (mem : Memory → SProp
       at_once ! $ show ! (Left_two 𝓛 TG.the_row κ₄ q₄ γ₄ b₄ o₄ ys gv u32 κ₅ q₅ γ₅ b₅ o₅ hs hv (Finds 𝓛 mem run) to_find asked back done_finding ν δ ν' δ' u) (z.1.1.1.1.0, z.1.1.1.1.1.0) $ says ! (len, len', (r, (is, e))) $
       move ! (2 ∷ 0 ∷ []) $ join ! $ frame ! $ move ! (7 ∷ 5 ∷ []) $ join ! $ frame ! $ move ! (5 ∷ []) $ drop ! $ move ! (1 ∷ 0 ∷ []) $ join ! $ move ! (1 ∷ 0 ∷ []) $ join ! $ move ! (1 ∷ 0 ∷ []) $ join ! $ move ! (1 ∷ 0 ∷ []) $ join ! $ done !))))))
 
-  module _ (𝓣 : Tables 𝓤 H) (known_find : Triple 𝓤 (𝓣.C #find·find) (Finds 𝓛 mem run)) (known_flat : Triple 𝓤 (𝓣.C #capi_answers·flat_finding) (Flats 𝓛 mem run)) (s_fits : length ss < 2 ^ 64) (l_fits : length ls < 2 ^ 64) (f_fits : length fls < 2 ^ 64) (q_fits : length qs < 2 ^ 64) (g_room : Room TG.the_row (length ys)) (h_room : Room u32 (length hs)) where
+  module _ (𝓣 : Tables 𝓤 H) (known_find : Triple 𝓤 (𝓣.C #find·find) (Finds 𝓛 mem run)) (known_flat : Triple 𝓤 (𝓣.C #capi-answers·flat-finding) (Flats 𝓛 mem run)) (s_fits : length ss < 2 ^ 64) (l_fits : length ls < 2 ^ 64) (f_fits : length fls < 2 ^ 64) (q_fits : length qs < 2 ^ 64) (g_room : Room TG.the_row (length ys)) (h_room : Room u32 (length hs)) where
     abbrev C : Calls 𝓤 H
     C = 𝓣.C
 
@@ -229,7 +229,7 @@ module _ {M : Type 1} {𝓤 : Ura M} (𝓛 : Logic 𝓤) (mem : Memory → SProp
         move ! (34 ∷ 35 ∷ []) $ free1 ! $ move ! (32 ∷ 33 ∷ []) $ free1 ! $ move ! (30 ∷ 31 ∷ []) $ free1 ! $ move ! (28 ∷ 29 ∷ []) $ free1 ! $ move ! (26 ∷ 27 ∷ []) $ free1 ! $ move ! (24 ∷ 25 ∷ []) $ free1 ! $ move ! (22 ∷ 23 ∷ []) $ free1 ! $ move ! (20 ∷ 21 ∷ []) $ free1 ! $ move ! (18 ∷ 19 ∷ []) $ free1 ! $ move ! (16 ∷ 17 ∷ []) $ free1 ! $ move ! (14 ∷ 15 ∷ []) $ free1 ! $ move ! (12 ∷ 13 ∷ []) $ free1 ! $ free0 ! $
         by ! (exits x gs zs (d.0, d.1.1, e) gl hl (answered x _ is)))))))))))))))))
 
-module _ {M : Type 1} {𝓤 : Ura M} (𝓛 : Logic 𝓤) (mem : Memory → SProp 𝓤) (run : Routine → Fun 𝓤) (𝓣 : Tables 𝓤 𝓛.H) (known_find : Triple 𝓤 (𝓣.C #find·find) (Finds 𝓛 mem run)) (known_flat : Triple 𝓤 (𝓣.C #capi_answers·flat_finding) (Flats 𝓛 mem run)) where
+module _ {M : Type 1} {𝓤 : Ura M} (𝓛 : Logic 𝓤) (mem : Memory → SProp 𝓤) (run : Routine → Fun 𝓤) (𝓣 : Tables 𝓤 𝓛.H) (known_find : Triple 𝓤 (𝓣.C #find·find) (Finds 𝓛 mem run)) (known_flat : Triple 𝓤 (𝓣.C #capi-answers·flat-finding) (Flats 𝓛 mem run)) where
   open 𝓛 use {H}
 
   mrkvandel_find_walks : Walks 𝓛 f.ended stayed (WpFn 𝓤 H 𝓣.C 𝓣.Λ code.function) (f.clauses 𝓛 mem run)
@@ -252,7 +252,7 @@ pub mrkvandel_find_spec : {M : Type 1} → stated.statement M
 unfolding code.routine tables_of
 mrkvandel_find_spec 𝓤 𝓛 𝓜 𝓡 =
     entered 𝓤 𝓛.H (triple_of 𝓛 f.signature (f.spec 𝓛 𝓜.mem 𝓡.run))
-    (tables 𝓤 𝓛.H 𝓜 𝓡 code.env).C (tables 𝓤 𝓛.H 𝓜 𝓡 code.env).Λ #capi_find·mrkvandel_find code.function (code.unfolded 𝓤 𝓛.H 𝓜 𝓡)
+    (tables 𝓤 𝓛.H 𝓜 𝓡 code.env).C (tables 𝓤 𝓛.H 𝓜 𝓡 code.env).Λ #capi-find·mrkvandel-find code.function (code.unfolded 𝓤 𝓛.H 𝓜 𝓡)
     (mrkvandel_find_meets 𝓛 𝓜.mem 𝓡.run (tables_of 𝓤 𝓛.H 𝓜 (tables 𝓤 𝓛.H 𝓜 𝓡 code.env))
     (cited 𝓤 𝓛.H (Finds 𝓛 𝓜.mem 𝓡.run) 𝓜 𝓡 code.env #find·find find-def.routine code.calls-find::find (find-thm.met 𝓤 𝓛 𝓜 𝓡))
-    (cited 𝓤 𝓛.H (Flats 𝓛 𝓜.mem 𝓡.run) 𝓜 𝓡 code.env #capi_answers·flat_finding flat-def.routine code.calls-capi-answers::flat_finding_lem (flat-thm.met 𝓤 𝓛 𝓜 𝓡)))
+    (cited 𝓤 𝓛.H (Flats 𝓛 𝓜.mem 𝓡.run) 𝓜 𝓡 code.env #capi-answers·flat-finding flat-def.routine code.calls-capi-answers::flat_finding_lem (flat-thm.met 𝓤 𝓛 𝓜 𝓡)))

@@ -181,7 +181,7 @@ module _ {M : Type 1} {𝓤 : Ura M} (𝓛 : Logic 𝓤) (mem : Memory → SProp
       at_once ! $ show ! (Left_two 𝓛 TG.the_row κ₂ q₂ γ₂ b₂ o₂ ys gv TE.the_row κ₃ q₃ γ₃ b₃ o₃ es ev (Reads 𝓛 mem run) to_read asked back done-reading ν δ ν' δ' u) (z.1.1.0, z.1.1.1.0) $ says ! (len, len', (r, (is, e))) $
       move ! (2 ∷ 0 ∷ []) $ join ! $ frame ! $ move ! (5 ∷ 3 ∷ []) $ join ! $ frame ! $ move ! (3 ∷ []) $ drop ! $ move ! (1 ∷ 0 ∷ []) $ join ! $ move ! (1 ∷ 0 ∷ []) $ join ! $ done !))))))
 
-  module _ (𝓣 : Tables 𝓤 H) (known_read : Triple 𝓤 (𝓣.C #read·read) (Reads 𝓛 mem run)) (known_flat : Triple 𝓤 (𝓣.C #capi_answers·flat_reading) (Flats 𝓛 mem run)) (s_fits : length ss < 2 ^ 64) (l_fits : length ls < 2 ^ 64) (g_room : Room TG.the_row (length ys)) (e_room : Room TE.the_row (length es)) where
+  module _ (𝓣 : Tables 𝓤 H) (known_read : Triple 𝓤 (𝓣.C #read·read) (Reads 𝓛 mem run)) (known_flat : Triple 𝓤 (𝓣.C #capi-answers·flat-reading) (Flats 𝓛 mem run)) (s_fits : length ss < 2 ^ 64) (l_fits : length ls < 2 ^ 64) (g_room : Room TG.the_row (length ys)) (e_room : Room TE.the_row (length es)) where
     abbrev C : Calls 𝓤 H
     C = 𝓣.C
 
@@ -224,7 +224,7 @@ module _ {M : Type 1} {𝓤 : Ura M} (𝓛 : Logic 𝓤) (mem : Memory → SProp
         move ! (16 ∷ 17 ∷ []) $ free1 ! $ move ! (14 ∷ 15 ∷ []) $ free1 ! $ move ! (12 ∷ 13 ∷ []) $ free1 ! $ move ! (10 ∷ 11 ∷ []) $ free1 ! $ move ! (8 ∷ 9 ∷ []) $ free1 ! $ free0 ! $
         by ! (exits x gs zs (d.0, d.1.1, e) gl el (answered x _ is)))))))))))))))
 
-module _ {M : Type 1} {𝓤 : Ura M} (𝓛 : Logic 𝓤) (mem : Memory → SProp 𝓤) (run : Routine → Fun 𝓤) (𝓣 : Tables 𝓤 𝓛.H) (known_read : Triple 𝓤 (𝓣.C #read·read) (Reads 𝓛 mem run)) (known_flat : Triple 𝓤 (𝓣.C #capi_answers·flat_reading) (Flats 𝓛 mem run)) where
+module _ {M : Type 1} {𝓤 : Ura M} (𝓛 : Logic 𝓤) (mem : Memory → SProp 𝓤) (run : Routine → Fun 𝓤) (𝓣 : Tables 𝓤 𝓛.H) (known_read : Triple 𝓤 (𝓣.C #read·read) (Reads 𝓛 mem run)) (known_flat : Triple 𝓤 (𝓣.C #capi-answers·flat-reading) (Flats 𝓛 mem run)) where
   open 𝓛 use {H}
 
   mrkvandel_read_walks : Walks 𝓛 f.ended stayed (WpFn 𝓤 H 𝓣.C 𝓣.Λ code.function) (f.clauses 𝓛 mem run)
@@ -245,7 +245,7 @@ pub mrkvandel_read_spec : {M : Type 1} → stated.statement M
 unfolding code.routine tables_of
 mrkvandel_read_spec 𝓤 𝓛 𝓜 𝓡 =
     entered 𝓤 𝓛.H (triple_of 𝓛 f.signature (f.spec 𝓛 𝓜.mem 𝓡.run))
-    (tables 𝓤 𝓛.H 𝓜 𝓡 code.env).C (tables 𝓤 𝓛.H 𝓜 𝓡 code.env).Λ #capi_read·mrkvandel_read code.function (code.unfolded 𝓤 𝓛.H 𝓜 𝓡)
+    (tables 𝓤 𝓛.H 𝓜 𝓡 code.env).C (tables 𝓤 𝓛.H 𝓜 𝓡 code.env).Λ #capi-read·mrkvandel-read code.function (code.unfolded 𝓤 𝓛.H 𝓜 𝓡)
     (mrkvandel_read_meets 𝓛 𝓜.mem 𝓡.run (tables_of 𝓤 𝓛.H 𝓜 (tables 𝓤 𝓛.H 𝓜 𝓡 code.env))
     (cited 𝓤 𝓛.H (Reads 𝓛 𝓜.mem 𝓡.run) 𝓜 𝓡 code.env #read·read read-def.routine code.calls-read::read (read-thm.met 𝓤 𝓛 𝓜 𝓡))
-    (cited 𝓤 𝓛.H (Flats 𝓛 𝓜.mem 𝓡.run) 𝓜 𝓡 code.env #capi_answers·flat_reading flat-def.routine code.calls-capi-answers::flat_reading_lem (flat-thm.met 𝓤 𝓛 𝓜 𝓡)))
+    (cited 𝓤 𝓛.H (Flats 𝓛 𝓜.mem 𝓡.run) 𝓜 𝓡 code.env #capi-answers·flat-reading flat-def.routine code.calls-capi-answers::flat_reading_lem (flat-thm.met 𝓤 𝓛 𝓜 𝓡)))

@@ -613,7 +613,7 @@ module _ {M : Type 1} {𝓤 : Ura M} (𝓛 : Logic 𝓤) (mem : Memory → SProp
             use2 𝓛 (later (‵ (Records gs) ⊛ ‵ (flft κ₄ q₄))) (shared_back TG.the_row κ₄ (ν₂ ∷ []) q₄ γ₄ b₄ o₄ 𝓛 (named 4) (named 1) gs (gv ∷ []) g_room (ap (λ (v : Val). v ∷ []) gv_is)) $ await t tt $ split t $
             move t (11 ∷ 2 ∷ 12 ∷ 0 ∷ 1 ∷ 6 ∷ 7 ∷ 10 ∷ 5 ∷ 13 ∷ 14 ∷ 8 ∷ 3 ∷ 9 ∷ 4 ∷ []) $ k u hs' e))))
 
-  module _ (𝓣 : Tables 𝓤 H) (known_room : Triple 𝓤 (𝓣.C #read_scratch·room) (Rooms 𝓛 mem run)) (known_query_room : Triple 𝓤 (𝓣.C #find·query_room) (QueryRooms 𝓛 mem run)) (known_no_entries : Triple 𝓤 (𝓣.C #find·no_entries) (Nones 𝓛 mem run)) (known_ask : Triple 𝓤 (𝓣.C #find_ask·ask) (Asks 𝓛 mem run)) (Known_start : Triple 𝓤 (𝓣.C #find_setup·start) (Starts 𝓛 mem run)) (known_pass : Triple 𝓤 (𝓣.C #read_pass·pass) (Passes 𝓛 mem run)) (known_too_many : Triple 𝓤 (𝓣.C #find_room·too_many) (TooManys 𝓛 mem run)) (known_again : Triple 𝓤 (𝓣.C #find_setup·again) (Agains 𝓛 mem run)) (known_progress : Triple 𝓤 (𝓣.C #find_setup·progress) (Begins 𝓛 mem run)) (known_search : Triple 𝓤 (𝓣.C #find_search·search) (Searches 𝓛 mem run)) (known_answer : Triple 𝓤 (𝓣.C #find_setup·answer) (Answers 𝓛 mem run))
+  module _ (𝓣 : Tables 𝓤 H) (known_room : Triple 𝓤 (𝓣.C #read-scratch·room) (Rooms 𝓛 mem run)) (known_query_room : Triple 𝓤 (𝓣.C #find·query-room) (QueryRooms 𝓛 mem run)) (known_no_entries : Triple 𝓤 (𝓣.C #find·no-entries) (Nones 𝓛 mem run)) (known_ask : Triple 𝓤 (𝓣.C #find-ask·ask) (Asks 𝓛 mem run)) (Known_start : Triple 𝓤 (𝓣.C #find-setup·start) (Starts 𝓛 mem run)) (known_pass : Triple 𝓤 (𝓣.C #read-pass·pass) (Passes 𝓛 mem run)) (known_too_many : Triple 𝓤 (𝓣.C #find-room·too-many) (TooManys 𝓛 mem run)) (known_again : Triple 𝓤 (𝓣.C #find-setup·again) (Agains 𝓛 mem run)) (known_progress : Triple 𝓤 (𝓣.C #find-setup·progress) (Begins 𝓛 mem run)) (known_search : Triple 𝓤 (𝓣.C #find-search·search) (Searches 𝓛 mem run)) (known_answer : Triple 𝓤 (𝓣.C #find-setup·answer) (Answers 𝓛 mem run))
       (s_fits : length ss < 2 ^ 64) (l_fits : length ls < 2 ^ 64) (f_fits : length fls < 2 ^ 64) (q_fits : length qs < 2 ^ 64) (g_room : Room TG.the_row (length ys)) (h_room : Room u32 (length hs)) where
     abbrev C : Calls 𝓤 H
     C = 𝓣.C
@@ -709,7 +709,7 @@ module _ {M : Type 1} {𝓤 : Ura M} (𝓛 : Logic 𝓤) (mem : Memory → SProp
         assigns ! (agg ! (and_then ! (load ! (from ! (stop !)) (look ! 37 refl)) (and_then ! (lit ! tt) (no_more !)))) (from ! (stop !)) (init ! 35 refl (tt, (tt, (record { fits = lit< tt }, tt)))) $
         assigns ! (addr ! (from ! (stop !))) (from ! (stop !)) (init ! 33 refl (tt, tt)) $
         assigns ! (agg ! (and_then ! (load ! (from ! (stop !)) (look ! 33 refl)) (and_then ! (big_lit ! (record { fits = lit< tt })) (no_more !)))) (from ! (stop !)) (init ! 31 refl (tt, (tt, (record { fits = lit< tt }, tt)))) $
-        runs_pass l₇ l₈ l₉ ws₂ rows₁ zs₁ gs₁ d₃.0 ! fm known_pass (next_sound ss ls fls qs ys zs₀ hs d₀.0 rows₁ d₀.1.1 d₁.0 ws₁ d₁.1.1 (pass_from d₂.0 ws₁' gs₁ zs₁) d₂.1.1.1 too e_too d₃.0 d₃.1.1.0 ws₂ d₃.1.1.1) (told d₃.0 _ d₃.1.0) (subst (Room TG.the_row) (sym d₂.1.1.0) g_room) (ap (λ (m : ℕ). slice_val (b₄, o₄) m) (sym d₂.1.1.0)) (el₁ ∙ is₂.1.0.1)
+        runs_pass l₇ l₈ l₉ ws₂ rows₁ zs₁ gs₁ d₃.0 ! fm known_pass (next-sound ss ls fls qs ys zs₀ hs d₀.0 rows₁ d₀.1.1 d₁.0 ws₁ d₁.1.1 (pass_from d₂.0 ws₁' gs₁ zs₁) d₂.1.1.1 too e_too d₃.0 d₃.1.1.0 ws₂ d₃.1.1.1) (told d₃.0 _ d₃.1.0) (subst (Room TG.the_row) (sym d₂.1.1.0) g_room) (ap (λ (m : ℕ). slice_val (b₄, o₄) m) (sym d₂.1.1.0)) (el₁ ∙ is₂.1.0.1)
         (λ ν₁ δ₁ ν₂ δ₂ ν δ. (and_then ! (load ! (from ! (stop !)) (look ! 37 refl)) (and_then ! (load ! (from ! (stop !)) (look ! 33 refl)) (and_then ! (load ! (from ! (stop !)) (look ! 29 refl)) (and_then ! (load ! (from ! (stop !)) (look ! 108 refl)) (and_then ! (load ! (from ! (stop !)) (look ! 106 refl)) (and_then ! (load ! (from ! (stop !)) (look ! 85 refl)) (no_more !)))))))) (λ u₅ gs₂ ws₂' zs₂ wl₂ el₂ d₄.
         land ! (from ! (stop !)) (init ! 85 refl ((LL.lawful TS.the_type TS'.the_laws 𝓛).typed d₄.0 _ d₄.1.0).0) $ rewrite ! 85 (λ (x : Val). ‵ (fat full_share TS'.mir l₁₅ 0 x)) (ap only (LL.tells TS.the_type TS'.the_laws d₄.0 _ d₄.1.0)) refl $
         forget ! 31 refl $ forget ! 33 refl $ forget ! 35 refl $ forget ! 37 refl $ forget ! 39 refl $ forget ! 41 refl $
@@ -759,7 +759,7 @@ module _ {M : Type 1} {𝓤 : Ura M} (𝓛 : Logic 𝓤) (mem : Memory → SProp
         by ! (exits r v gs₂ hs₁ (let y = finds_as ss ls fls qs ys zs₀ hs d₀.0 rows₁ d₀.1.1 d₁.0 ws₁ d₁.1.1 (pass_from d₂.0 ws₁' gs₁ zs₁) d₂.1.1.1 too e_too d₃.0 d₃.1.1.0 ws₂ d₃.1.1.1 (pass_from d₄.0 ws₂' gs₂ zs₂) d₄.1.1.1 g e_g (record { state = d₅.0; hits = hs₁ }) d₅.1.1.1 in record { answer = e ∙ y.0; records = y.1; hits = y.2 }) (d₄.1.1.0 ∙ d₂.1.1.0) d₅.1.1.0 is)))))))))))))))))))))))))))))))))))))))))))))))))))))))))))))))))))))))
 
 module _ {M : Type 1} {𝓤 : Ura M} (𝓛 : Logic 𝓤) (mem : Memory → SProp 𝓤) (run : Routine → Fun 𝓤) (𝓣 : Tables 𝓤 𝓛.H)
-    (known_room : Triple 𝓤 (𝓣.C #read_scratch·room) (Rooms 𝓛 mem run)) (known_query_room : Triple 𝓤 (𝓣.C #find·query_room) (QueryRooms 𝓛 mem run)) (known_no_entries : Triple 𝓤 (𝓣.C #find·no_entries) (Nones 𝓛 mem run)) (known_ask : Triple 𝓤 (𝓣.C #find_ask·ask) (Asks 𝓛 mem run)) (Known_start : Triple 𝓤 (𝓣.C #find_setup·start) (Starts 𝓛 mem run)) (known_pass : Triple 𝓤 (𝓣.C #read_pass·pass) (Passes 𝓛 mem run)) (known_too_many : Triple 𝓤 (𝓣.C #find_room·too_many) (TooManys 𝓛 mem run)) (known_again : Triple 𝓤 (𝓣.C #find_setup·again) (Agains 𝓛 mem run)) (known_progress : Triple 𝓤 (𝓣.C #find_setup·progress) (Begins 𝓛 mem run)) (known_search : Triple 𝓤 (𝓣.C #find_search·search) (Searches 𝓛 mem run)) (known_answer : Triple 𝓤 (𝓣.C #find_setup·answer) (Answers 𝓛 mem run)) where
+    (known_room : Triple 𝓤 (𝓣.C #read-scratch·room) (Rooms 𝓛 mem run)) (known_query_room : Triple 𝓤 (𝓣.C #find·query-room) (QueryRooms 𝓛 mem run)) (known_no_entries : Triple 𝓤 (𝓣.C #find·no-entries) (Nones 𝓛 mem run)) (known_ask : Triple 𝓤 (𝓣.C #find-ask·ask) (Asks 𝓛 mem run)) (Known_start : Triple 𝓤 (𝓣.C #find-setup·start) (Starts 𝓛 mem run)) (known_pass : Triple 𝓤 (𝓣.C #read-pass·pass) (Passes 𝓛 mem run)) (known_too_many : Triple 𝓤 (𝓣.C #find-room·too-many) (TooManys 𝓛 mem run)) (known_again : Triple 𝓤 (𝓣.C #find-setup·again) (Agains 𝓛 mem run)) (known_progress : Triple 𝓤 (𝓣.C #find-setup·progress) (Begins 𝓛 mem run)) (known_search : Triple 𝓤 (𝓣.C #find-search·search) (Searches 𝓛 mem run)) (known_answer : Triple 𝓤 (𝓣.C #find-setup·answer) (Answers 𝓛 mem run)) where
   open 𝓛 use {H}
 
   find_walks : Walks 𝓛 f.ended stayed (WpFn 𝓤 H 𝓣.C 𝓣.Λ code.function) (f.clauses 𝓛 mem run)
@@ -784,14 +784,14 @@ find_spec 𝓤 𝓛 𝓜 𝓡 =
     entered 𝓤 𝓛.H (triple_of 𝓛 f.signature (f.spec 𝓛 𝓜.mem 𝓡.run))
     (tables 𝓤 𝓛.H 𝓜 𝓡 code.env).C (tables 𝓤 𝓛.H 𝓜 𝓡 code.env).Λ #find·find code.function (code.unfolded 𝓤 𝓛.H 𝓜 𝓡)
     (find_meets 𝓛 𝓜.mem 𝓡.run (tables_of 𝓤 𝓛.H 𝓜 (tables 𝓤 𝓛.H 𝓜 𝓡 code.env))
-    (cited 𝓤 𝓛.H (Rooms 𝓛 𝓜.mem 𝓡.run) 𝓜 𝓡 code.env #read_scratch·room room-def.routine code.calls-read-scratch::room (room-thm.met 𝓤 𝓛 𝓜 𝓡))
-    (cited 𝓤 𝓛.H (QueryRooms 𝓛 𝓜.mem 𝓡.run) 𝓜 𝓡 code.env #find·query_room query-room-def.routine code.calls-find::query_room (query-room-thm.met 𝓤 𝓛 𝓜 𝓡))
-    (cited 𝓤 𝓛.H (Nones 𝓛 𝓜.mem 𝓡.run) 𝓜 𝓡 code.env #find·no_entries no-entries-def.routine code.calls-find::no_entries (no-entries-thm.met 𝓤 𝓛 𝓜 𝓡))
-    (cited 𝓤 𝓛.H (Asks 𝓛 𝓜.mem 𝓡.run) 𝓜 𝓡 code.env #find_ask·ask ask-def.routine code.calls-find-ask::ask (ask-thm.met 𝓤 𝓛 𝓜 𝓡))
-    (cited 𝓤 𝓛.H (Starts 𝓛 𝓜.mem 𝓡.run) 𝓜 𝓡 code.env #find_setup·start start-def.routine code.calls-find-setup::start (start-thm.met 𝓤 𝓛 𝓜 𝓡))
-    (cited 𝓤 𝓛.H (Passes 𝓛 𝓜.mem 𝓡.run) 𝓜 𝓡 code.env #read_pass·pass pass-def.routine code.calls-read-pass::pass (pass-thm.met 𝓤 𝓛 𝓜 𝓡))
-    (cited 𝓤 𝓛.H (TooManys 𝓛 𝓜.mem 𝓡.run) 𝓜 𝓡 code.env #find_room·too_many too-many-def.routine code.calls-find-room::too_many_lem (too-many-thm.met 𝓤 𝓛 𝓜 𝓡))
-    (cited 𝓤 𝓛.H (Agains 𝓛 𝓜.mem 𝓡.run) 𝓜 𝓡 code.env #find_setup·again again-def.routine code.calls-find-setup::again (again-thm.met 𝓤 𝓛 𝓜 𝓡))
-    (cited 𝓤 𝓛.H (Begins 𝓛 𝓜.mem 𝓡.run) 𝓜 𝓡 code.env #find_setup·progress progress-def.routine code.calls-find-setup::progress (progress-thm.met 𝓤 𝓛 𝓜 𝓡))
-    (cited 𝓤 𝓛.H (Searches 𝓛 𝓜.mem 𝓡.run) 𝓜 𝓡 code.env #find_search·search search-def.routine code.calls-find-search::search (search-thm.met 𝓤 𝓛 𝓜 𝓡))
-    (cited 𝓤 𝓛.H (Answers 𝓛 𝓜.mem 𝓡.run) 𝓜 𝓡 code.env #find_setup·answer answer-def.routine code.calls-find-setup::answer (answer-thm.met 𝓤 𝓛 𝓜 𝓡)))
+    (cited 𝓤 𝓛.H (Rooms 𝓛 𝓜.mem 𝓡.run) 𝓜 𝓡 code.env #read-scratch·room room-def.routine code.calls-read-scratch::room (room-thm.met 𝓤 𝓛 𝓜 𝓡))
+    (cited 𝓤 𝓛.H (QueryRooms 𝓛 𝓜.mem 𝓡.run) 𝓜 𝓡 code.env #find·query-room query-room-def.routine code.calls-find::query_room (query-room-thm.met 𝓤 𝓛 𝓜 𝓡))
+    (cited 𝓤 𝓛.H (Nones 𝓛 𝓜.mem 𝓡.run) 𝓜 𝓡 code.env #find·no-entries no-entries-def.routine code.calls-find::no_entries (no-entries-thm.met 𝓤 𝓛 𝓜 𝓡))
+    (cited 𝓤 𝓛.H (Asks 𝓛 𝓜.mem 𝓡.run) 𝓜 𝓡 code.env #find-ask·ask ask-def.routine code.calls-find-ask::ask (ask-thm.met 𝓤 𝓛 𝓜 𝓡))
+    (cited 𝓤 𝓛.H (Starts 𝓛 𝓜.mem 𝓡.run) 𝓜 𝓡 code.env #find-setup·start start-def.routine code.calls-find-setup::start (start-thm.met 𝓤 𝓛 𝓜 𝓡))
+    (cited 𝓤 𝓛.H (Passes 𝓛 𝓜.mem 𝓡.run) 𝓜 𝓡 code.env #read-pass·pass pass-def.routine code.calls-read-pass::pass (pass-thm.met 𝓤 𝓛 𝓜 𝓡))
+    (cited 𝓤 𝓛.H (TooManys 𝓛 𝓜.mem 𝓡.run) 𝓜 𝓡 code.env #find-room·too-many too-many-def.routine code.calls-find-room::too_many_lem (too-many-thm.met 𝓤 𝓛 𝓜 𝓡))
+    (cited 𝓤 𝓛.H (Agains 𝓛 𝓜.mem 𝓡.run) 𝓜 𝓡 code.env #find-setup·again again-def.routine code.calls-find-setup::again (again-thm.met 𝓤 𝓛 𝓜 𝓡))
+    (cited 𝓤 𝓛.H (Begins 𝓛 𝓜.mem 𝓡.run) 𝓜 𝓡 code.env #find-setup·progress progress-def.routine code.calls-find-setup::progress (progress-thm.met 𝓤 𝓛 𝓜 𝓡))
+    (cited 𝓤 𝓛.H (Searches 𝓛 𝓜.mem 𝓡.run) 𝓜 𝓡 code.env #find-search·search search-def.routine code.calls-find-search::search (search-thm.met 𝓤 𝓛 𝓜 𝓡))
+    (cited 𝓤 𝓛.H (Answers 𝓛 𝓜.mem 𝓡.run) 𝓜 𝓡 code.env #find-setup·answer answer-def.routine code.calls-find-setup::answer (answer-thm.met 𝓤 𝓛 𝓜 𝓡)))

@@ -15,5 +15,5 @@ pub get_record_spec : {M : Type 1} → stated.statement M
 unfolding code.routine tables_of
 get_record_spec 𝓤 𝓛 𝓜 𝓡 =
     entered 𝓤 𝓛.H (triple_of 𝓛 f.signature (f.spec 𝓛 𝓜.mem 𝓡.run))
-    (tables 𝓤 𝓛.H 𝓜 𝓡 code.env).C (tables 𝓤 𝓛.H 𝓜 𝓡 code.env).Λ #find_search·get_record code.function (code.unfolded 𝓤 𝓛.H 𝓜 𝓡)
+    (tables 𝓤 𝓛.H 𝓜 𝓡 code.env).C (tables 𝓤 𝓛.H 𝓜 𝓡 code.env).Λ #find-search·get-record code.function (code.unfolded 𝓤 𝓛.H 𝓜 𝓡)
     (get_meets T.the_type T'.the_laws T'.the_plain tt T'.the_copy blank 𝓛 (tables_of 𝓤 𝓛.H 𝓜 (tables 𝓤 𝓛.H 𝓜 𝓡 code.env)))

@@ -133,7 +133,7 @@ rows_ty = slice_ty (ty_ref (named 5) imm number)
 abbrev takes_hit : Body
 takes_hit = seq (assign (place 13 []) (rv_opd (copy (place 12 (variant 0 ∷ field 1 ∷ []))))) (seq (assign (place 14 []) (rv_opd (copy (place 12 (variant 0 ∷ field 2 ∷ [])))))
     (seq (assign (place 17 []) (addr_of (place 1 (field 0 ∷ deref number ∷ [])))) (seq (assign (place 18 []) (aggregate (copy (place 17 []) ∷ copy (place 1 (field 1 ∷ [])) ∷ [])))
-    (call #find_search·put_hit (copy (place 18 []) ∷ copy (place 13 []) ∷ copy (place 14 []) ∷ []) (place 16 [])))))
+    (call #find-search·put-hit (copy (place 18 []) ∷ copy (place 13 []) ∷ copy (place 14 []) ∷ []) (place 16 [])))))
 
 abbrev next_state : Body
 next_state = assign (place 8 []) (rv_opd (copy (place 11 (field 1 ∷ []))))
@@ -234,7 +234,7 @@ module _ {M : Type 1} {𝓤 : Ura M} (𝓛 : Logic 𝓤) (mem : Memory → SProp
       split ! $ move ! (1 ∷ []) $ split ! $ move ! (1 ∷ []) $ split ! $ move ! (4 ∷ []) $ split ! $
       nothing ! $ move ! (2 ∷ 0 ∷ []) $ fjoin ! $ move ! (1 ∷ 0 ∷ []) $ fjoin ! $ move ! (2 ∷ 0 ∷ []) $ fjoin ! $ move ! (1 ∷ 0 ∷ []) $ fjoin ! $ move ! (1 ∷ 0 ∷ []) $ fjoin ! $ move ! (1 ∷ 0 ∷ []) $ fjoin ! $ done !
 
-  module _ (𝓣 : Tables 𝓤 H) (known_get : Triple 𝓤 (𝓣.C #find_search·get_record) (Get 𝓛 mem run)) (known_feed : Triple 𝓤 (𝓣.C #find_compare·feed) (Feed 𝓛 mem run)) (known_hit : Triple 𝓤 (𝓣.C #find_search·put_hit) (Put u32 𝓛))
+  module _ (𝓣 : Tables 𝓤 H) (known_get : Triple 𝓤 (𝓣.C #find-search·get-record) (Get 𝓛 mem run)) (known_feed : Triple 𝓤 (𝓣.C #find-compare·feed) (Feed 𝓛 mem run)) (known_hit : Triple 𝓤 (𝓣.C #find-search·put-hit) (Put u32 𝓛))
       (h_room : Room u32 (length hs)) (r_fits : length rs < 2 ^ 64) (s_fits : length ss < 2 ^ 64) (q_fits : length qs < 2 ^ 64) (f_fits : length fls < 2 ^ 64) (t_fits : length ts < 2 ^ 64) (is₀ : Is TS.the_row st₀ (stv st₀ ∷ [])) (sound : SearchReady (length rs) (length hs) ts st₀) where
     abbrev C : Calls 𝓤 H
     C = 𝓣.C
@@ -369,7 +369,7 @@ module _ {M : Type 1} {𝓤 : Ura M} (𝓛 : Logic 𝓤) (mem : Memory → SProp
           move ! (48 ∷ 49 ∷ []) $ free1 ! $ move ! (46 ∷ 47 ∷ []) $ free1 ! $ move ! (44 ∷ 45 ∷ []) $ free1 ! $ move ! (42 ∷ 43 ∷ []) $ free1 ! $ move ! (40 ∷ 41 ∷ []) $ free1 ! $ move ! (38 ∷ 39 ∷ []) $ free1 ! $ move ! (36 ∷ 37 ∷ []) $ free1 ! $ move ! (34 ∷ 35 ∷ []) $ free1 ! $
           move ! (32 ∷ 33 ∷ []) $ free1 ! $ move ! (30 ∷ 31 ∷ []) $ free1 ! $ move ! (28 ∷ 29 ∷ []) $ free1 ! $ move ! (26 ∷ 27 ∷ []) $ free1 ! $ move ! (24 ∷ 25 ∷ []) $ free1 ! $ move ! (22 ∷ 23 ∷ []) $ free1 ! $
           move ! (20 ∷ 21 ∷ []) $ free1 ! $ move ! (18 ∷ 19 ∷ []) $ free1 ! $ move ! (16 ∷ 17 ∷ []) $ free1 ! $ move ! (14 ∷ 15 ∷ []) $ free1 ! $ move ! (12 ∷ 13 ∷ []) $ free1 ! $ free0 ! $
-          by ! (exits is₀ p (sym (run_done ss qs fls ts rs p₀ k p over) ∙ kn.known.runs) kn.known.same kn.is)
+          by ! (exits is₀ p (sym (run-done ss qs fls ts rs p₀ k p over) ∙ kn.known.runs) kn.known.same kn.is)
 
       turn : (kp : ℕ × Looked) → P kp → (X : SProp 𝓤) → Again 𝓛 𝓣 En mir.turn-1 Left P left At kp X → ent 𝓤 (⋆ 𝓛 (At kp)) (Wp 𝓤 H C Λ En mir.turn-1 (after_turn 𝓤 H X Left))
       turn (zero, p) kn X again = ends zero p kn kn.known.few X
@@ -397,7 +397,7 @@ module _ {M : Type 1} {𝓤 : Ura M} (𝓛 : Logic 𝓤) (mem : Memory → SProp
         starts l₀ l₁ l₂ l₃ l₄ l₅ l₆ l₇ l₈ l₉ l₁₀ l₁₁ l₁₂ l₁₃ l₁₄ l₁₅ l₁₆ l₁₇ l₁₈ p₀ (record { known = first_known ss qs fls ts rs p₀ sound; is = is₀ }))))))))))))))))))))
 
 module _ {M : Type 1} {𝓤 : Ura M} (𝓛 : Logic 𝓤) (mem : Memory → SProp 𝓤) (run : Routine → Fun 𝓤) (𝓣 : Tables 𝓤 𝓛.H)
-    (known_get : Triple 𝓤 (𝓣.C #find_search·get_record) (Get 𝓛 mem run)) (known_feed : Triple 𝓤 (𝓣.C #find_compare·feed) (Feed 𝓛 mem run)) (known_hit : Triple 𝓤 (𝓣.C #find_search·put_hit) (Put u32 𝓛)) where
+    (known_get : Triple 𝓤 (𝓣.C #find-search·get-record) (Get 𝓛 mem run)) (known_feed : Triple 𝓤 (𝓣.C #find-compare·feed) (Feed 𝓛 mem run)) (known_hit : Triple 𝓤 (𝓣.C #find-search·put-hit) (Put u32 𝓛)) where
   open 𝓛 use {H}
 
   search_walks : Walks 𝓛 f.ended stayed (WpFn 𝓤 H 𝓣.C 𝓣.Λ code.function) (f.clauses 𝓛 mem run)
@@ -419,8 +419,8 @@ pub search_spec : {M : Type 1} → stated.statement M
 unfolding code.routine tables_of
 search_spec 𝓤 𝓛 𝓜 𝓡 =
     entered 𝓤 𝓛.H (triple_of 𝓛 f.signature (f.spec 𝓛 𝓜.mem 𝓡.run))
-    (tables 𝓤 𝓛.H 𝓜 𝓡 code.env).C (tables 𝓤 𝓛.H 𝓜 𝓡 code.env).Λ #find_search·search code.function (code.unfolded 𝓤 𝓛.H 𝓜 𝓡)
+    (tables 𝓤 𝓛.H 𝓜 𝓡 code.env).C (tables 𝓤 𝓛.H 𝓜 𝓡 code.env).Λ #find-search·search code.function (code.unfolded 𝓤 𝓛.H 𝓜 𝓡)
     (search_meets 𝓛 𝓜.mem 𝓡.run (tables_of 𝓤 𝓛.H 𝓜 (tables 𝓤 𝓛.H 𝓜 𝓡 code.env))
-    (cited 𝓤 𝓛.H (Get 𝓛 𝓜.mem 𝓡.run) 𝓜 𝓡 code.env #find_search·get_record get-record-def.routine code.calls-find-search::get-record (get-record-thm.met 𝓤 𝓛 𝓜 𝓡))
-    (cited 𝓤 𝓛.H (Feed 𝓛 𝓜.mem 𝓡.run) 𝓜 𝓡 code.env #find_compare·feed feed-def.routine code.calls-find-compare::feed (feed-thm.met 𝓤 𝓛 𝓜 𝓡))
-    (cited 𝓤 𝓛.H (Put u32 𝓛) 𝓜 𝓡 code.env #find_search·put_hit put-hit-def.routine code.calls-find-search::put_hit (put-hit-thm.met 𝓤 𝓛 𝓜 𝓡)))
+    (cited 𝓤 𝓛.H (Get 𝓛 𝓜.mem 𝓡.run) 𝓜 𝓡 code.env #find-search·get-record get-record-def.routine code.calls-find-search::get-record (get-record-thm.met 𝓤 𝓛 𝓜 𝓡))
+    (cited 𝓤 𝓛.H (Feed 𝓛 𝓜.mem 𝓡.run) 𝓜 𝓡 code.env #find-compare·feed feed-def.routine code.calls-find-compare::feed (feed-thm.met 𝓤 𝓛 𝓜 𝓡))
+    (cited 𝓤 𝓛.H (Put u32 𝓛) 𝓜 𝓡 code.env #find-search·put-hit put-hit-def.routine code.calls-find-search::put_hit (put-hit-thm.met 𝓤 𝓛 𝓜 𝓡)))

@@ -317,8 +317,8 @@ module _ {M : Type 1} {𝓤 : Ura M} (𝓛 : Logic 𝓤) (mem : Memory → SProp
             move t (4 ∷ []) $ use1 𝓛 ((‵ (flft (ν₂ ∷ []) full_share) ⊛ ‵ (finally u32 δ₂ ended.scratch)) ⊛ (‵ (flft κ₀ q₀) ⊛ ‵ (flft κ₁ q₁) ⊛ ‵ ftrue)) (id⊢ 𝓤 _) $ split t $ split t $ move t (2 ∷ []) $ split t $ move t (1 ∷ []) $ split t $ move t (1 ∷ []) $ drop t $
             move t (2 ∷ 3 ∷ 10 ∷ 4 ∷ 5 ∷ 6 ∷ 7 ∷ 9 ∷ 1 ∷ 8 ∷ 0 ∷ []) $ row_in 𝓛 u32 l 0 xs (wsv l) t tt ν₂ δ₂ ended.scratch (λ len. k u gs' zs' gl el len d)))
 
-  module _ (𝓣 : Tables 𝓤 H) (known_room : Triple 𝓤 (𝓣.C #read_scratch·room) (Rooms 𝓛 mem run)) (Known_start : Triple 𝓤 (𝓣.C #read_setup·start) (Starts 𝓛 mem run)) (known_again : Triple 𝓤 (𝓣.C #read_setup·again) (Agains 𝓛 mem run)) (known_answer : Triple 𝓤 (𝓣.C #read_setup·answer) (Answers 𝓛 mem run))
-      (known_pass : Triple 𝓤 (𝓣.C #read_pass·pass) (Passes 𝓛 mem run)) (s_fits : length ss < 2 ^ 64) (l_fits : length ls < 2 ^ 64) (g_room : Room TG.the_row (length ys)) (e_room : Room TE.the_row (length es)) where
+  module _ (𝓣 : Tables 𝓤 H) (known_room : Triple 𝓤 (𝓣.C #read-scratch·room) (Rooms 𝓛 mem run)) (Known_start : Triple 𝓤 (𝓣.C #read-setup·start) (Starts 𝓛 mem run)) (known_again : Triple 𝓤 (𝓣.C #read-setup·again) (Agains 𝓛 mem run)) (known_answer : Triple 𝓤 (𝓣.C #read-setup·answer) (Answers 𝓛 mem run))
+      (known_pass : Triple 𝓤 (𝓣.C #read-pass·pass) (Passes 𝓛 mem run)) (s_fits : length ss < 2 ^ 64) (l_fits : length ls < 2 ^ 64) (g_room : Room TG.the_row (length ys)) (e_room : Room TE.the_row (length es)) where
     abbrev C : Calls 𝓤 H
     C = 𝓣.C
 
@@ -410,7 +410,7 @@ module _ {M : Type 1} {𝓤 : Ura M} (𝓛 : Logic 𝓤) (mem : Memory → SProp
         by ! (exits r gs₃ zs₃ (let y = reads_as ss ls ys es d₀.0 ws₁ d₀.1.1.0 (pass_from d₁.0 (ended l₅ ws₁ d₀.0 ys es).scratch gs zs) d₁.1.1 d₂.0 d₂.1.1.0 ws₂ d₂.1.1.1 (pass_from d₃.0 (ended l₅ ws₂ d₂.0 gs zs).scratch gs₃ zs₃) d₃.1.1 d₀.1.1.1 in record { answer = e ∙ y.0; records = y.1; entries = y.2 }) (gl₃ ∙ gl) (el₃ ∙ el) (answered r _ is)))))))))))))))))))))))))))))))))))))))))
 
 module _ {M : Type 1} {𝓤 : Ura M} (𝓛 : Logic 𝓤) (mem : Memory → SProp 𝓤) (run : Routine → Fun 𝓤) (𝓣 : Tables 𝓤 𝓛.H)
-    (known_room : Triple 𝓤 (𝓣.C #read_scratch·room) (Rooms 𝓛 mem run)) (Known_start : Triple 𝓤 (𝓣.C #read_setup·start) (Starts 𝓛 mem run)) (known_again : Triple 𝓤 (𝓣.C #read_setup·again) (Agains 𝓛 mem run)) (known_answer : Triple 𝓤 (𝓣.C #read_setup·answer) (Answers 𝓛 mem run)) (known_pass : Triple 𝓤 (𝓣.C #read_pass·pass) (Passes 𝓛 mem run)) where
+    (known_room : Triple 𝓤 (𝓣.C #read-scratch·room) (Rooms 𝓛 mem run)) (Known_start : Triple 𝓤 (𝓣.C #read-setup·start) (Starts 𝓛 mem run)) (known_again : Triple 𝓤 (𝓣.C #read-setup·again) (Agains 𝓛 mem run)) (known_answer : Triple 𝓤 (𝓣.C #read-setup·answer) (Answers 𝓛 mem run)) (known_pass : Triple 𝓤 (𝓣.C #read-pass·pass) (Passes 𝓛 mem run)) where
   open 𝓛 use {H}
 
   read_walks : Walks 𝓛 f.ended stayed (WpFn 𝓤 H 𝓣.C 𝓣.Λ code.function) (f.clauses 𝓛 mem run)
@@ -433,8 +433,8 @@ read_spec 𝓤 𝓛 𝓜 𝓡 =
     entered 𝓤 𝓛.H (triple_of 𝓛 f.signature (f.spec 𝓛 𝓜.mem 𝓡.run))
     (tables 𝓤 𝓛.H 𝓜 𝓡 code.env).C (tables 𝓤 𝓛.H 𝓜 𝓡 code.env).Λ #read·read code.function (code.unfolded 𝓤 𝓛.H 𝓜 𝓡)
     (read_meets 𝓛 𝓜.mem 𝓡.run (tables_of 𝓤 𝓛.H 𝓜 (tables 𝓤 𝓛.H 𝓜 𝓡 code.env))
-    (cited 𝓤 𝓛.H (Rooms 𝓛 𝓜.mem 𝓡.run) 𝓜 𝓡 code.env #read_scratch·room room-def.routine code.calls-read-scratch::room (room-thm.met 𝓤 𝓛 𝓜 𝓡))
-    (cited 𝓤 𝓛.H (Starts 𝓛 𝓜.mem 𝓡.run) 𝓜 𝓡 code.env #read_setup·start start-def.routine code.calls-read-setup::start (start-thm.met 𝓤 𝓛 𝓜 𝓡))
-    (cited 𝓤 𝓛.H (Agains 𝓛 𝓜.mem 𝓡.run) 𝓜 𝓡 code.env #read_setup·again again-def.routine code.calls-read-setup::again (again-thm.met 𝓤 𝓛 𝓜 𝓡))
-    (cited 𝓤 𝓛.H (Answers 𝓛 𝓜.mem 𝓡.run) 𝓜 𝓡 code.env #read_setup·answer answer-def.routine code.calls-read-setup::answer (answer-thm.met 𝓤 𝓛 𝓜 𝓡))
-    (cited 𝓤 𝓛.H (Passes 𝓛 𝓜.mem 𝓡.run) 𝓜 𝓡 code.env #read_pass·pass pass-def.routine code.calls-read-pass::pass (pass-thm.met 𝓤 𝓛 𝓜 𝓡)))
+    (cited 𝓤 𝓛.H (Rooms 𝓛 𝓜.mem 𝓡.run) 𝓜 𝓡 code.env #read-scratch·room room-def.routine code.calls-read-scratch::room (room-thm.met 𝓤 𝓛 𝓜 𝓡))
+    (cited 𝓤 𝓛.H (Starts 𝓛 𝓜.mem 𝓡.run) 𝓜 𝓡 code.env #read-setup·start start-def.routine code.calls-read-setup::start (start-thm.met 𝓤 𝓛 𝓜 𝓡))
+    (cited 𝓤 𝓛.H (Agains 𝓛 𝓜.mem 𝓡.run) 𝓜 𝓡 code.env #read-setup·again again-def.routine code.calls-read-setup::again (again-thm.met 𝓤 𝓛 𝓜 𝓡))
+    (cited 𝓤 𝓛.H (Answers 𝓛 𝓜.mem 𝓡.run) 𝓜 𝓡 code.env #read-setup·answer answer-def.routine code.calls-read-setup::answer (answer-thm.met 𝓤 𝓛 𝓜 𝓡))
+    (cited 𝓤 𝓛.H (Passes 𝓛 𝓜.mem 𝓡.run) 𝓜 𝓡 code.env #read-pass·pass pass-def.routine code.calls-read-pass::pass (pass-thm.met 𝓤 𝓛 𝓜 𝓡)))

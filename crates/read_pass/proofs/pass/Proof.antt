@@ -179,18 +179,18 @@ list_ty = slice_ty (ty_ref (named 4) imm (ty_int w8))
 abbrev takes_record : Body
 takes_record = seq (assign (place 11 []) (rv_opd (copy (place 10 (variant 1 ∷ field 1 ∷ []))))) (seq (assign (place 12 []) (rv_opd (copy (place 10 (variant 1 ∷ field 2 ∷ [])))))
     (seq (assign (place 22 []) (addr_of (place 1 (field 0 ∷ deref TG'.mir ∷ [])))) (seq (assign (place 23 []) (aggregate (copy (place 22 []) ∷ copy (place 1 (field 1 ∷ [])) ∷ [])))
-    (call #read_rows·put_record (copy (place 23 []) ∷ copy (place 11 []) ∷ copy (place 12 []) ∷ []) (place 21 [])))))
+    (call #read-rows·put-record (copy (place 23 []) ∷ copy (place 11 []) ∷ copy (place 12 []) ∷ []) (place 21 [])))))
 
 abbrev takes_entry : Body
 takes_entry = seq (assign (place 13 []) (rv_opd (copy (place 10 (variant 2 ∷ field 1 ∷ []))))) (seq (assign (place 14 []) (rv_opd (copy (place 10 (variant 2 ∷ field 2 ∷ [])))))
     (seq (assign (place 25 []) (addr_of (place 2 (field 0 ∷ deref TE'.mir ∷ [])))) (seq (assign (place 26 []) (aggregate (copy (place 25 []) ∷ copy (place 2 (field 1 ∷ [])) ∷ [])))
-    (call #read_rows·put_entry (copy (place 26 []) ∷ copy (place 13 []) ∷ copy (place 14 []) ∷ []) (place 24 [])))))
+    (call #read-rows·put-entry (copy (place 26 []) ∷ copy (place 13 []) ∷ copy (place 14 []) ∷ []) (place 24 [])))))
 
 abbrev takes_word : Body
 takes_word = seq (assign (place 15 []) (rv_opd (copy (place 10 (variant 3 ∷ field 1 ∷ []))))) (seq (assign (place 16 []) (rv_opd (copy (place 10 (variant 3 ∷ field 2 ∷ [])))))
     (seq (assign (place 28 []) (addr_of (place 1 (field 0 ∷ deref TG'.mir ∷ [])))) (seq (assign (place 29 []) (aggregate (copy (place 28 []) ∷ copy (place 1 (field 1 ∷ [])) ∷ [])))
     (seq (assign (place 30 []) (addr_of (place 3 (field 0 ∷ deref (ty_int w32) ∷ [])))) (seq (assign (place 31 []) (aggregate (copy (place 30 []) ∷ copy (place 3 (field 1 ∷ [])) ∷ [])))
-    (call #read_rows·fill_word (copy (place 29 []) ∷ copy (place 4 []) ∷ copy (place 31 []) ∷ copy (place 15 []) ∷ copy (place 16 []) ∷ []) (place 27 [])))))))
+    (call #read-rows·fill-word (copy (place 29 []) ∷ copy (place 4 []) ∷ copy (place 31 []) ∷ copy (place 15 []) ∷ copy (place 16 []) ∷ []) (place 27 [])))))))
 
 abbrev next_state : Body
 next_state = assign (place 8 []) (rv_opd (copy (place 9 (field 1 ∷ []))))
@@ -338,7 +338,7 @@ module _ {M : Type 1} {𝓤 : Ura M} (𝓛 : Logic 𝓤) (mem : Memory → SProp
         -- [the tokens; the last list; true]
         split ! $ at_once ! $ show ! (Leaves 𝓛 TG.the_row κ₀ q₀ γ₀ b₀ o₀ gs gv (Fills 𝓛 mem run) to_fill fill_asks fill_back filled ν δ u) zs.0 $ says ! (len, (ap only v, e)) $ frame ! $ move ! (1 ∷ 0 ∷ []) $ frame ! $ move ! (1 ∷ []) $ drop ! $ done !)))))
 
-  module _ (𝓣 : Tables 𝓤 H) (known_new : Triple 𝓤 (𝓣.C #scan_reader·new) (New 𝓛 mem run)) (known_turn : Triple 𝓤 (𝓣.C #read_turn·turn) (Turns 𝓛 mem run)) (known_fill : Triple 𝓤 (𝓣.C #read_rows·fill_word) (Fills 𝓛 mem run)) (known_record : Triple 𝓤 (𝓣.C #read_rows·put_record) (Put TG.the_row 𝓛)) (known_entry : Triple 𝓤 (𝓣.C #read_rows·put_entry) (Put TE.the_row 𝓛))
+  module _ (𝓣 : Tables 𝓤 H) (known_new : Triple 𝓤 (𝓣.C #scan-reader·new) (New 𝓛 mem run)) (known_turn : Triple 𝓤 (𝓣.C #read-turn·turn) (Turns 𝓛 mem run)) (known_fill : Triple 𝓤 (𝓣.C #read-rows·fill-word) (Fills 𝓛 mem run)) (known_record : Triple 𝓤 (𝓣.C #read-rows·put-record) (Put TG.the_row 𝓛)) (known_entry : Triple 𝓤 (𝓣.C #read-rows·put-entry) (Put TE.the_row 𝓛))
       (g_room : Room TG.the_row (length ys)) (e_room : Room TE.the_row (length es)) (t_room : Room u32 (length ts)) (s_fits : length ss < 2 ^ 64) (l_fits : length ls < 2 ^ 64) (is₀ : Is TS.the_row st₀ (stv st₀ ∷ [])) (sound : PassReady (length ss) ts (length ys) (length es) st₀) where
     abbrev C : Calls 𝓤 H
     C = 𝓣.C
@@ -518,7 +518,7 @@ module _ {M : Type 1} {𝓤 : Ura M} (𝓛 : Logic 𝓤) (mem : Memory → SProp
           move ! (36 ∷ 37 ∷ []) $ free1 ! $ move ! (34 ∷ 35 ∷ []) $ free1 ! $ move ! (32 ∷ 33 ∷ []) $ free1 ! $ move ! (30 ∷ 31 ∷ []) $ free1 ! $ move ! (28 ∷ 29 ∷ []) $ free1 ! $ move ! (26 ∷ 27 ∷ []) $ free1 ! $
           move ! (24 ∷ 25 ∷ []) $ free1 ! $ move ! (22 ∷ 23 ∷ []) $ free1 ! $ move ! (20 ∷ 21 ∷ []) $ free1 ! $ move ! (18 ∷ 19 ∷ []) $ free1 ! $ move ! (16 ∷ 17 ∷ []) $ free1 ! $ move ! (14 ∷ 15 ∷ []) $ free1 ! $
           move ! (12 ∷ 13 ∷ []) $ free1 ! $ move ! (10 ∷ 11 ∷ []) $ free1 ! $ free0 ! $
-          by ! (exits is₀ p (sym (run_done ls ss p₀ k p over) ∙ kn.known.runs) kn.known.records_same kn.known.entries_same (scratch_same p.scratch kn.known.scratch) kn.is)
+          by ! (exits is₀ p (sym (run-done ls ss p₀ k p over) ∙ kn.known.runs) kn.known.records_same kn.known.entries_same (scratch_same p.scratch kn.known.scratch) kn.is)
 
       turn : (kpn : ℕ × (ReadPass × ℕ)) → P kpn → (X : SProp 𝓤) → Again 𝓛 𝓣 En mir.turn-1 Left P left At kpn X → ent 𝓤 (⋆ 𝓛 (At kpn)) (Wp 𝓤 H C Λ En mir.turn-1 (after_turn 𝓤 H X Left))
       turn (zero, (p, n)) kn X again = ends zero p n kn kn.known.few X
@@ -550,7 +550,7 @@ module _ {M : Type 1} {𝓤 : Ura M} (𝓛 : Logic 𝓤) (mem : Memory → SProp
         starts l₀ l₁ l₂ l₃ l₄ l₅ l₆ l₇ l₈ l₉ l₁₀ l₁₁ l₁₂ l₁₃ l₁₄ l₁₅ l₁₆ l₁₇ l₁₈ l₁₉ l₂₀ l₂₁ l₂₂ l₂₃ l₂₄ l₂₅ l₂₆ l₂₇ l₂₈ l₂₉ l₃₀ l₃₁ p₀ (record { known = first_known ls ss p₀ sound; is = is₀ })))))))))))))))))))))))))))))))))
 
 module _ {M : Type 1} {𝓤 : Ura M} (𝓛 : Logic 𝓤) (mem : Memory → SProp 𝓤) (run : Routine → Fun 𝓤) (𝓣 : Tables 𝓤 𝓛.H)
-    (known_new : Triple 𝓤 (𝓣.C #scan_reader·new) (New 𝓛 mem run)) (known_turn : Triple 𝓤 (𝓣.C #read_turn·turn) (Turns 𝓛 mem run)) (known_fill : Triple 𝓤 (𝓣.C #read_rows·fill_word) (Fills 𝓛 mem run)) (known_record : Triple 𝓤 (𝓣.C #read_rows·put_record) (Put TG.the_row 𝓛)) (known_entry : Triple 𝓤 (𝓣.C #read_rows·put_entry) (Put TE.the_row 𝓛)) where
+    (known_new : Triple 𝓤 (𝓣.C #scan-reader·new) (New 𝓛 mem run)) (known_turn : Triple 𝓤 (𝓣.C #read-turn·turn) (Turns 𝓛 mem run)) (known_fill : Triple 𝓤 (𝓣.C #read-rows·fill-word) (Fills 𝓛 mem run)) (known_record : Triple 𝓤 (𝓣.C #read-rows·put-record) (Put TG.the_row 𝓛)) (known_entry : Triple 𝓤 (𝓣.C #read-rows·put-entry) (Put TE.the_row 𝓛)) where
   open 𝓛 use {H}
 
   pass_walks : Walks 𝓛 f.ended stayed (WpFn 𝓤 H 𝓣.C 𝓣.Λ code.function) (f.clauses 𝓛 mem run)
@@ -572,10 +572,10 @@ pub pass_spec : {M : Type 1} → stated.statement M
 unfolding code.routine tables_of
 pass_spec 𝓤 𝓛 𝓜 𝓡 =
     entered 𝓤 𝓛.H (triple_of 𝓛 f.signature (f.spec 𝓛 𝓜.mem 𝓡.run))
-    (tables 𝓤 𝓛.H 𝓜 𝓡 code.env).C (tables 𝓤 𝓛.H 𝓜 𝓡 code.env).Λ #read_pass·pass code.function (code.unfolded 𝓤 𝓛.H 𝓜 𝓡)
+    (tables 𝓤 𝓛.H 𝓜 𝓡 code.env).C (tables 𝓤 𝓛.H 𝓜 𝓡 code.env).Λ #read-pass·pass code.function (code.unfolded 𝓤 𝓛.H 𝓜 𝓡)
     (pass_meets 𝓛 𝓜.mem 𝓡.run (tables_of 𝓤 𝓛.H 𝓜 (tables 𝓤 𝓛.H 𝓜 𝓡 code.env))
-    (cited 𝓤 𝓛.H (New 𝓛 𝓜.mem 𝓡.run) 𝓜 𝓡 code.env #scan_reader·new new-def.routine code.calls-scan-reader::Reader::new (new-thm.met 𝓤 𝓛 𝓜 𝓡))
-    (cited 𝓤 𝓛.H (Turns 𝓛 𝓜.mem 𝓡.run) 𝓜 𝓡 code.env #read_turn·turn turn-def.routine code.calls-read-turn::turn (turn-thm.met 𝓤 𝓛 𝓜 𝓡))
-    (cited 𝓤 𝓛.H (Fills 𝓛 𝓜.mem 𝓡.run) 𝓜 𝓡 code.env #read_rows·fill_word fill-def.routine code.calls-read-rows::fill_word (fill-thm.met 𝓤 𝓛 𝓜 𝓡))
-    (cited 𝓤 𝓛.H (Put TG.the_row 𝓛) 𝓜 𝓡 code.env #read_rows·put_record put-record-def.routine code.calls-read-rows::put_record (put-record-thm.met 𝓤 𝓛 𝓜 𝓡))
-    (cited 𝓤 𝓛.H (Put TE.the_row 𝓛) 𝓜 𝓡 code.env #read_rows·put_entry put-entry-def.routine code.calls-read-rows::put_entry (put-entry-thm.met 𝓤 𝓛 𝓜 𝓡)))
+    (cited 𝓤 𝓛.H (New 𝓛 𝓜.mem 𝓡.run) 𝓜 𝓡 code.env #scan-reader·new new-def.routine code.calls-scan-reader::Reader::new (new-thm.met 𝓤 𝓛 𝓜 𝓡))
+    (cited 𝓤 𝓛.H (Turns 𝓛 𝓜.mem 𝓡.run) 𝓜 𝓡 code.env #read-turn·turn turn-def.routine code.calls-read-turn::turn (turn-thm.met 𝓤 𝓛 𝓜 𝓡))
+    (cited 𝓤 𝓛.H (Fills 𝓛 𝓜.mem 𝓡.run) 𝓜 𝓡 code.env #read-rows·fill-word fill-def.routine code.calls-read-rows::fill_word (fill-thm.met 𝓤 𝓛 𝓜 𝓡))
+    (cited 𝓤 𝓛.H (Put TG.the_row 𝓛) 𝓜 𝓡 code.env #read-rows·put-record put-record-def.routine code.calls-read-rows::put_record (put-record-thm.met 𝓤 𝓛 𝓜 𝓡))
+    (cited 𝓤 𝓛.H (Put TE.the_row 𝓛) 𝓜 𝓡 code.env #read-rows·put-entry put-entry-def.routine code.calls-read-rows::put_entry (put-entry-thm.met 𝓤 𝓛 𝓜 𝓡)))

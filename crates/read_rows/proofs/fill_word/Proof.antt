@@ -173,7 +173,7 @@ module _ {M : Type 1} {𝓤 : Ura M} (𝓛 : Logic 𝓤) (mem : Memory → SProp
       split ! $ nothing ! $ move ! (2 ∷ 0 ∷ []) $ join ! $ move ! (1 ∷ 0 ∷ []) $ join ! $ frame ! $
       split ! $ nothing ! $ move ! (3 ∷ 0 ∷ []) $ fjoin ! $ move ! (2 ∷ 0 ∷ []) $ fjoin ! $ move ! (1 ∷ 0 ∷ []) $ fjoin ! $ done !
 
-  module _ (𝓣 : Tables 𝓤 H) (Known_step : Triple 𝓤 (𝓣.C #read_word·word_step) (Steps 𝓛 mem run)) (known_put : Triple 𝓤 (𝓣.C #read_rows·put_record) (Put TG.the_row 𝓛))
+  module _ (𝓣 : Tables 𝓤 H) (Known_step : Triple 𝓤 (𝓣.C #read-word·word-step) (Steps 𝓛 mem run)) (known_put : Triple 𝓤 (𝓣.C #read-rows·put-record) (Put TG.the_row 𝓛))
       (room : Room TG.the_row (length ys)) (s_fits : length ss < 2 ^ 64) (t_fits : length ts < 2 ^ 64) (k_fits : k < 2 ^ 64) (w_is : Is TW.the_row w (wv w ∷ [])) (asked : WordIn ss ts (length ys) k w) where
     abbrev C : Calls 𝓤 H
     C = 𝓣.C
@@ -292,7 +292,7 @@ module _ {M : Type 1} {𝓤 : Ura M} (𝓛 : Logic 𝓤) (mem : Memory → SProp
         assigns ! (of_opd ! (load ! (from ! (stop !)) (look ! 22 refl))) (from ! (stop !)) (init ! 16 refl (tt, record { fits = k_fits })) $
         starts l₀ l₁ l₂ l₃ l₄ l₅ l₆ l₇ l₈ l₉ l₁₀ l₁₁ l₁₂ (record { runs = refl; left_is = refl; within = asked; same = refl; is = w_is }))))))))))))))
 
-module _ {M : Type 1} {𝓤 : Ura M} (𝓛 : Logic 𝓤) (mem : Memory → SProp 𝓤) (run : Routine → Fun 𝓤) (𝓣 : Tables 𝓤 𝓛.H) (Known_step : Triple 𝓤 (𝓣.C #read_word·word_step) (Steps 𝓛 mem run)) (known_put : Triple 𝓤 (𝓣.C #read_rows·put_record) (Put TG.the_row 𝓛)) where
+module _ {M : Type 1} {𝓤 : Ura M} (𝓛 : Logic 𝓤) (mem : Memory → SProp 𝓤) (run : Routine → Fun 𝓤) (𝓣 : Tables 𝓤 𝓛.H) (Known_step : Triple 𝓤 (𝓣.C #read-word·word-step) (Steps 𝓛 mem run)) (known_put : Triple 𝓤 (𝓣.C #read-rows·put-record) (Put TG.the_row 𝓛)) where
   open 𝓛 use {H}
 
   fill_walks : Walks 𝓛 f.ended stayed (WpFn 𝓤 H 𝓣.C 𝓣.Λ code.function) (f.clauses 𝓛 mem run)
@@ -311,7 +311,7 @@ pub fill_word_spec : {M : Type 1} → stated.statement M
 unfolding code.routine tables_of
 fill_word_spec 𝓤 𝓛 𝓜 𝓡 =
     entered 𝓤 𝓛.H (triple_of 𝓛 f.signature (f.spec 𝓛 𝓜.mem 𝓡.run))
-    (tables 𝓤 𝓛.H 𝓜 𝓡 code.env).C (tables 𝓤 𝓛.H 𝓜 𝓡 code.env).Λ #read_rows·fill_word code.function (code.unfolded 𝓤 𝓛.H 𝓜 𝓡)
+    (tables 𝓤 𝓛.H 𝓜 𝓡 code.env).C (tables 𝓤 𝓛.H 𝓜 𝓡 code.env).Λ #read-rows·fill-word code.function (code.unfolded 𝓤 𝓛.H 𝓜 𝓡)
     (fill_meets 𝓛 𝓜.mem 𝓡.run (tables_of 𝓤 𝓛.H 𝓜 (tables 𝓤 𝓛.H 𝓜 𝓡 code.env))
-    (cited 𝓤 𝓛.H (Steps 𝓛 𝓜.mem 𝓡.run) 𝓜 𝓡 code.env #read_word·word_step word-step-def.routine code.calls-read-word::word-step (word-step-thm.met 𝓤 𝓛 𝓜 𝓡))
-    (cited 𝓤 𝓛.H (Put TG.the_row 𝓛) 𝓜 𝓡 code.env #read_rows·put_record put-record-def.routine code.calls-read-rows::put_record (put-record-thm.met 𝓤 𝓛 𝓜 𝓡)))
+    (cited 𝓤 𝓛.H (Steps 𝓛 𝓜.mem 𝓡.run) 𝓜 𝓡 code.env #read-word·word-step word-step-def.routine code.calls-read-word::word-step (word-step-thm.met 𝓤 𝓛 𝓜 𝓡))
+    (cited 𝓤 𝓛.H (Put TG.the_row 𝓛) 𝓜 𝓡 code.env #read-rows·put-record put-record-def.routine code.calls-read-rows::put_record (put-record-thm.met 𝓤 𝓛 𝓜 𝓡)))

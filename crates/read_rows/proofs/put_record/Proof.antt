@@ -15,5 +15,5 @@ pub put_record_spec : {M : Type 1} → stated.statement M
 unfolding code.routine tables_of
 put_record_spec 𝓤 𝓛 𝓜 𝓡 =
     entered 𝓤 𝓛.H (triple_of 𝓛 f.signature (f.spec 𝓛 𝓜.mem 𝓡.run))
-    (tables 𝓤 𝓛.H 𝓜 𝓡 code.env).C (tables 𝓤 𝓛.H 𝓜 𝓡 code.env).Λ #read_rows·put_record code.function (code.unfolded 𝓤 𝓛.H 𝓜 𝓡)
+    (tables 𝓤 𝓛.H 𝓜 𝓡 code.env).C (tables 𝓤 𝓛.H 𝓜 𝓡 code.env).Λ #read-rows·put-record code.function (code.unfolded 𝓤 𝓛.H 𝓜 𝓡)
     (put_meets T.the_type T'.the_laws T'.the_plain tt (λ _. tt) 𝓛 (λ _ _ _. refl) (tables_of 𝓤 𝓛.H 𝓜 (tables 𝓤 𝓛.H 𝓜 𝓡 code.env)))

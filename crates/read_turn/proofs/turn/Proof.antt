@@ -154,7 +154,7 @@ module _ {M : Type 1} {𝓤 : Ura M} (𝓛 : Logic 𝓤) (mem : Memory → SProp
       suffices ! _ (ends_at 𝓛 f.ended stayed (f.clauses 𝓛 mem run) bound u r (l, (tt, (tt, (tt, tt)))) (len, (tt, (tt, (tt, tt))))) $ says ! e $ frame ! $
       nothing ! $ owned ! TS.the_row (Is TS.the_row) (LL.makes TS.the_type TS'.the_plain 𝓛) st _ is₀ $ fjoin ! $ move ! (3 ∷ 0 ∷ []) $ fjoin ! $ move ! (2 ∷ 0 ∷ []) $ fjoin ! $ move ! (1 ∷ 0 ∷ []) $ fjoin ! $ done !
 
-  module _ (C : Calls 𝓤 H) (Λ : Loops 𝓤 H) (fm : FmC 𝓤 H 𝓛.laws C) (known : Triple 𝓤 (C #read_turn·turn_at) (TurnsAt 𝓛 mem run)) where
+  module _ (C : Calls 𝓤 H) (Λ : Loops 𝓤 H) (fm : FmC 𝓤 H 𝓛.laws C) (known : Triple 𝓤 (C #read-turn·turn-at) (TurnsAt 𝓛 mem run)) where
     walk : Room u32 (length x.now) → Holds (has_ty (T'.mir (named 1)) mach) × WT mach → length y.now < 2 ^ 64 → Is TS.the_row st (stv ∷ []) → asks
         → ent 𝓤 (on_entry 𝓛 f.signature κs (q₀, (q₁, (q₂, tt))) args vals) (WpFn 𝓤 H C Λ code.function (tv ∷ mach ∷ lv ∷ stv ∷ []) Post)
     walk room wt l_fits is₀ within =
@@ -185,7 +185,7 @@ module _ {M : Type 1} {𝓤 : Ura M} (𝓛 : Logic 𝓤) (mem : Memory → SProp
         move ! (22 ∷ 23 ∷ []) $ free1 ! $ move ! (20 ∷ 21 ∷ []) $ free1 ! $ move ! (18 ∷ 19 ∷ []) $ free1 ! $ move ! (16 ∷ 17 ∷ []) $ free1 ! $ move ! (14 ∷ 15 ∷ []) $ free1 ! $ move ! (12 ∷ 13 ∷ []) $ free1 ! $ move ! (10 ∷ 11 ∷ []) $ free1 ! $ move ! (8 ∷ 9 ∷ []) $ free1 ! $ move ! (6 ∷ 7 ∷ []) $ free1 ! $ free0 ! $
         keep ! (1 ∷ 2 ∷ 4 ∷ 5 ∷ 0 ∷ []) $ by ! (exits is₀ r u zs.0 e len)))))))))))))))))
 
-module _ {M : Type 1} {𝓤 : Ura M} (𝓛 : Logic 𝓤) (mem : Memory → SProp 𝓤) (run : Routine → Fun 𝓤) (𝓣 : Tables 𝓤 𝓛.H) (known : Triple 𝓤 (𝓣.C #read_turn·turn_at) (TurnsAt 𝓛 mem run)) where
+module _ {M : Type 1} {𝓤 : Ura M} (𝓛 : Logic 𝓤) (mem : Memory → SProp 𝓤) (run : Routine → Fun 𝓤) (𝓣 : Tables 𝓤 𝓛.H) (known : Triple 𝓤 (𝓣.C #read-turn·turn-at) (TurnsAt 𝓛 mem run)) where
   open 𝓛 use {H}
 
   turn_walks : Walks 𝓛 f.ended stayed (WpFn 𝓤 H 𝓣.C 𝓣.Λ code.function) (f.clauses 𝓛 mem run)
@@ -205,6 +205,6 @@ pub turn_spec : {M : Type 1} → stated.statement M
 unfolding code.routine tables_of
 turn_spec 𝓤 𝓛 𝓜 𝓡 =
     entered 𝓤 𝓛.H (triple_of 𝓛 f.signature (f.spec 𝓛 𝓜.mem 𝓡.run))
-    (tables 𝓤 𝓛.H 𝓜 𝓡 code.env).C (tables 𝓤 𝓛.H 𝓜 𝓡 code.env).Λ #read_turn·turn code.function (code.unfolded 𝓤 𝓛.H 𝓜 𝓡)
+    (tables 𝓤 𝓛.H 𝓜 𝓡 code.env).C (tables 𝓤 𝓛.H 𝓜 𝓡 code.env).Λ #read-turn·turn code.function (code.unfolded 𝓤 𝓛.H 𝓜 𝓡)
     (turn_meets 𝓛 𝓜.mem 𝓡.run (tables_of 𝓤 𝓛.H 𝓜 (tables 𝓤 𝓛.H 𝓜 𝓡 code.env))
-    (cited 𝓤 𝓛.H (TurnsAt 𝓛 𝓜.mem 𝓡.run) 𝓜 𝓡 code.env #read_turn·turn_at turn-at-def.routine code.calls-read-turn::turn_at_lem (turn-at-thm.met 𝓤 𝓛 𝓜 𝓡)))
+    (cited 𝓤 𝓛.H (TurnsAt 𝓛 𝓜.mem 𝓡.run) 𝓜 𝓡 code.env #read-turn·turn-at turn-at-def.routine code.calls-read-turn::turn_at_lem (turn-at-thm.met 𝓤 𝓛 𝓜 𝓡)))

@@ -226,7 +226,7 @@ module _ {M : Type 1} {𝓤 : Ura M} (𝓛 : Logic 𝓤) (mem : Memory → SProp
         at_once ! $ show ! (Left_two 𝓛 u8 κ₀ q₀ γ₀ b₀ o₀ p.bytes ov u32 κ₁ q₁ γ₁ b₁ o₁ p.scratch tv (Turns 𝓛 mem run) to_turn turn_asks turn_back turn_tells ν δ ν' δ' u) (zs.0, zs.1.0) $ says ! (ol, tl, (r, (is, e))) $
         move ! (2 ∷ 0 ∷ []) $ join ! $ frame ! $ move ! (3 ∷ 1 ∷ []) $ join ! $ frame ! $ move ! (1 ∷ []) $ drop ! $ done !))))))
 
-  module _ (𝓣 : Tables 𝓤 H) (known_new : Triple 𝓤 (𝓣.C #scan_reader·new) (New 𝓛 mem run)) (known_turn : Triple 𝓤 (𝓣.C #respell_pass·turn) (Turns 𝓛 mem run))
+  module _ (𝓣 : Tables 𝓤 H) (known_new : Triple 𝓤 (𝓣.C #scan-reader·new) (New 𝓛 mem run)) (known_turn : Triple 𝓤 (𝓣.C #respell-pass·turn) (Turns 𝓛 mem run))
       (o_room : Room u8 (length os)) (t_room : Room u32 (length ts)) (s_fits : length ss < 2 ^ 64) (l_fits : length ls < 2 ^ 64) (is₀ : Is TW.the_row w₀ (wv w₀ ∷ [])) (sound : PassReady (length ss) ts 0 0 w₀.state) where
     abbrev C : Calls 𝓤 H
     C = 𝓣.C
@@ -352,7 +352,7 @@ module _ {M : Type 1} {𝓤 : Ura M} (𝓛 : Logic 𝓤) (mem : Memory → SProp
         starts l₀ l₁ l₂ l₃ l₄ l₅ l₆ l₇ l₈ l₉ l₁₀ l₁₁ l₁₂ l₁₃ l₁₄ l₁₅ (record { known = known_first ls ss w₀.state w₀.mark ts os sound; is = is₀ })))))))))))))))))
 
 module _ {M : Type 1} {𝓤 : Ura M} (𝓛 : Logic 𝓤) (mem : Memory → SProp 𝓤) (run : Routine → Fun 𝓤) (𝓣 : Tables 𝓤 𝓛.H)
-    (known_new : Triple 𝓤 (𝓣.C #scan_reader·new) (New 𝓛 mem run)) (known_turn : Triple 𝓤 (𝓣.C #respell_pass·turn) (Turns 𝓛 mem run)) where
+    (known_new : Triple 𝓤 (𝓣.C #scan-reader·new) (New 𝓛 mem run)) (known_turn : Triple 𝓤 (𝓣.C #respell-pass·turn) (Turns 𝓛 mem run)) where
   open 𝓛 use {H}
 
   pass_walks : Walks 𝓛 f.ended stayed (WpFn 𝓤 H 𝓣.C 𝓣.Λ code.function) (f.clauses 𝓛 mem run)
@@ -374,7 +374,7 @@ pub pass_spec : {M : Type 1} → stated.statement M
 unfolding code.routine tables_of
 pass_spec 𝓤 𝓛 𝓜 𝓡 =
     entered 𝓤 𝓛.H (triple_of 𝓛 f.signature (f.spec 𝓛 𝓜.mem 𝓡.run))
-    (tables 𝓤 𝓛.H 𝓜 𝓡 code.env).C (tables 𝓤 𝓛.H 𝓜 𝓡 code.env).Λ #respell_pass·pass code.function (code.unfolded 𝓤 𝓛.H 𝓜 𝓡)
+    (tables 𝓤 𝓛.H 𝓜 𝓡 code.env).C (tables 𝓤 𝓛.H 𝓜 𝓡 code.env).Λ #respell-pass·pass code.function (code.unfolded 𝓤 𝓛.H 𝓜 𝓡)
     (pass_meets 𝓛 𝓜.mem 𝓡.run (tables_of 𝓤 𝓛.H 𝓜 (tables 𝓤 𝓛.H 𝓜 𝓡 code.env))
-    (cited 𝓤 𝓛.H (New 𝓛 𝓜.mem 𝓡.run) 𝓜 𝓡 code.env #scan_reader·new new-def.routine code.calls-scan-reader::Reader::new (new-thm.met 𝓤 𝓛 𝓜 𝓡))
-    (cited 𝓤 𝓛.H (Turns 𝓛 𝓜.mem 𝓡.run) 𝓜 𝓡 code.env #respell_pass·turn turn-def.routine code.calls-respell-pass::turn (turn-thm.met 𝓤 𝓛 𝓜 𝓡)))
+    (cited 𝓤 𝓛.H (New 𝓛 𝓜.mem 𝓡.run) 𝓜 𝓡 code.env #scan-reader·new new-def.routine code.calls-scan-reader::Reader::new (new-thm.met 𝓤 𝓛 𝓜 𝓡))
+    (cited 𝓤 𝓛.H (Turns 𝓛 𝓜.mem 𝓡.run) 𝓜 𝓡 code.env #respell-pass·turn turn-def.routine code.calls-respell-pass::turn (turn-thm.met 𝓤 𝓛 𝓜 𝓡)))

@@ -165,7 +165,7 @@ module _ {M : Type 1} {𝓤 : Ura M} (𝓛 : Logic 𝓤) (mem : Memory → SProp
         nothing ! $ owned ! TM.the_row (Is TM.the_row) (LL.makes TM.the_type TM'.the_plain 𝓛) m _ is_mark $ fjoin ! $ owned ! TS.the_row (Is TS.the_row) (LL.makes TS.the_type TS'.the_plain 𝓛) st _ is_state $ fjoin ! $
         move ! (4 ∷ 0 ∷ []) $ fjoin ! $ move ! (3 ∷ 0 ∷ []) $ fjoin ! $ move ! (2 ∷ 0 ∷ []) $ fjoin ! $ move ! (1 ∷ 0 ∷ []) $ fjoin ! $ done !
 
-    module _ (C : Calls 𝓤 H) (Λ : Loops 𝓤 H) (fm : FmC 𝓤 H 𝓛.laws C) (known : Triple 𝓤 (C #respell_pass·turn_at) (TurnsAt 𝓛 mem run)) where
+    module _ (C : Calls 𝓤 H) (Λ : Loops 𝓤 H) (fm : FmC 𝓤 H 𝓛.laws C) (known : Triple 𝓤 (C #respell-pass·turn-at) (TurnsAt 𝓛 mem run)) where
       walk : Room u8 (length w.now) → Room u32 (length x.now) → Holds (has_ty (T'.mir (named 2)) mach) × WT mach → length y.now < 2 ^ 64 → asks
           → ent 𝓤 (on_entry 𝓛 f.signature κs (q₀, (q₁, (q₂, (q₃, tt)))) args vals) (WpFn 𝓤 H C Λ code.function (ov ∷ tv ∷ mach ∷ lv ∷ stv ∷ mv ∷ []) Post)
       walk o_room t_room wt l_fits within =
@@ -204,7 +204,7 @@ module _ {M : Type 1} {𝓤 : Ura M} (𝓛 : Logic 𝓤) (mem : Memory → SProp
           move ! (17 ∷ 18 ∷ []) $ free1 ! $ move ! (15 ∷ 16 ∷ []) $ free1 ! $ move ! (13 ∷ 14 ∷ []) $ free1 ! $ move ! (11 ∷ 12 ∷ []) $ free1 ! $ move ! (9 ∷ 10 ∷ []) $ free1 ! $ move ! (7 ∷ 8 ∷ []) $ free1 ! $ free0 ! $
           keep ! (1 ∷ 4 ∷ 2 ∷ 5 ∷ 6 ∷ 0 ∷ []) $ by ! (exits r u zs.0 zs.1.0 e o_len l_len))))))))))))))))))))))
 
-module _ {M : Type 1} {𝓤 : Ura M} (𝓛 : Logic 𝓤) (mem : Memory → SProp 𝓤) (run : Routine → Fun 𝓤) (𝓣 : Tables 𝓤 𝓛.H) (known : Triple 𝓤 (𝓣.C #respell_pass·turn_at) (TurnsAt 𝓛 mem run)) where
+module _ {M : Type 1} {𝓤 : Ura M} (𝓛 : Logic 𝓤) (mem : Memory → SProp 𝓤) (run : Routine → Fun 𝓤) (𝓣 : Tables 𝓤 𝓛.H) (known : Triple 𝓤 (𝓣.C #respell-pass·turn-at) (TurnsAt 𝓛 mem run)) where
   open 𝓛 use {H}
 
   turn_walks : Walks 𝓛 f.ended stayed (WpFn 𝓤 H 𝓣.C 𝓣.Λ code.function) (f.clauses 𝓛 mem run)
@@ -226,6 +226,6 @@ pub turn_spec : {M : Type 1} → stated.statement M
 unfolding code.routine tables_of
 turn_spec 𝓤 𝓛 𝓜 𝓡 =
     entered 𝓤 𝓛.H (triple_of 𝓛 f.signature (f.spec 𝓛 𝓜.mem 𝓡.run))
-    (tables 𝓤 𝓛.H 𝓜 𝓡 code.env).C (tables 𝓤 𝓛.H 𝓜 𝓡 code.env).Λ #respell_pass·turn code.function (code.unfolded 𝓤 𝓛.H 𝓜 𝓡)
+    (tables 𝓤 𝓛.H 𝓜 𝓡 code.env).C (tables 𝓤 𝓛.H 𝓜 𝓡 code.env).Λ #respell-pass·turn code.function (code.unfolded 𝓤 𝓛.H 𝓜 𝓡)
     (turn_meets 𝓛 𝓜.mem 𝓡.run (tables_of 𝓤 𝓛.H 𝓜 (tables 𝓤 𝓛.H 𝓜 𝓡 code.env))
-    (cited 𝓤 𝓛.H (TurnsAt 𝓛 𝓜.mem 𝓡.run) 𝓜 𝓡 code.env #respell_pass·turn_at turn-at-def.routine code.calls-respell-pass::turn_at_lem (turn-at-thm.met 𝓤 𝓛 𝓜 𝓡)))
+    (cited 𝓤 𝓛.H (TurnsAt 𝓛 𝓜.mem 𝓡.run) 𝓜 𝓡 code.env #respell-pass·turn-at turn-at-def.routine code.calls-respell-pass::turn_at_lem (turn-at-thm.met 𝓤 𝓛 𝓜 𝓡)))

@@ -1,6 +1,6 @@
-use Rattle·scan_lex·proofs.proofs.Texts.{texts}
-use Rattle·scan_lex·proofs.proofs.blank_end.Statement.{statement}
-use Rattle·scan_lex·proofs.proofs.blank_end.Tie as tie
+use Rattle.scan_lex.proofs.Texts.{texts}
+use Rattle.scan_lex.proofs.blank_end.Statement.{statement}
+use Rattle.scan_lex.proofs.blank_end.Tie as tie
 
 pub blank_end_spec : {M : Type 1} → statement M
 blank_end_spec =

@@ -1,6 +1,6 @@
-use Rattle·scan_lex·proofs.proofs.Runs.{runs}
-use Rattle·scan_lex·proofs.proofs.breaks.Statement.{statement}
-use Rattle·scan_lex·proofs.proofs.breaks.Tie as tie
+use Rattle.scan_lex.proofs.Runs.{runs}
+use Rattle.scan_lex.proofs.breaks.Statement.{statement}
+use Rattle.scan_lex.proofs.breaks.Tie as tie
 
 pub breaks_spec : {M : Type 1} → statement M
 breaks_spec =

@@ -1,20 +1,20 @@
-use Prim.Native.Nat.{_-_}
-use mathlib.Core.Path.{_≡_}
+use Prim.Native.Nat.{◌-◌}
+use mathlib.Core.Path.{◌≡◌}
 use lib.ListN.{length}
-use Rattle·rules.specs.Bytes.{isSpace}
-use Rattle·scan_lex·specs.specs.At.{runEnd}
-use Rattle·scan_lex·proofs.proofs.Runs.{runs}
-use Rattle·scan_lex·proofs.proofs.spacer_end.Statement.{statement}
-use Rattle·scan_lex·proofs.proofs.spacer_end.Tie as tie
+use Rattle.rules.specs.Bytes.{is_space}
+use Rattle.scan_lex.specs.At.{run_end}
+use Rattle.scan_lex.proofs.Runs.{runs}
+use Rattle.scan_lex.proofs.spacer_end.Statement.{statement}
+use Rattle.scan_lex.proofs.spacer_end.Tie as tie
 
-abbrev Inv_loop : tie.InvT-loop
-Inv_loop s at i₀ i = runEnd isSpace s at ≡ runEnd isSpace s i
+abbrev invariant_loop : tie.invariant-loop
+invariant_loop s at i₀ i = run_end is_space s at ≡ run_end is_space s i
 
-abbrev μ_loop : tie.MeasureT-loop
-μ_loop s at i₀ i = length s - i
+abbrev decreases_loop : tie.decreases-loop
+decreases_loop s at i₀ i = length s - i
 
 pub spacer_end_spec : {M : Type 1} → statement M
 spacer_end_spec =
     tie.close
     (tie.spec
-    Inv_loop μ_loop (λ c. search runs) (λ c. search runs) (λ c κs. search runs) (λ c. search runs) (λ c. search runs) (λ c. search runs) (λ c. search runs) (λ c. search runs))
+    invariant_loop decreases_loop (λ c. search runs) (λ c. search runs) (λ c κs. search runs) (λ c. search runs) (λ c. search runs) (λ c. search runs) (λ c. search runs) (λ c. search runs))

@@ -196,7 +196,7 @@ module _ {M : Type 1} {𝓤 : Ura M} (𝓛 : Logic 𝓤) (mem : Memory → SProp
         at_once ! $ show ! (Left 𝓛 u32 κ₄ q₄ γ₄ b₄ o₄ hs hv (Finds 𝓛 mem run) to_find find_asks find_back found ν δ u) z.1.1.1.1.1.0 $ says ! (len, (r, (is, (len, (e.answer, e.hits))))) $
         frame ! $ move ! (6 ∷ []) $ frame ! $ move ! (1 ∷ 6 ∷ []) $ join ! $ frame ! $ move ! (4 ∷ []) $ frame ! $ move ! (3 ∷ []) $ frame ! $ move ! (2 ∷ []) $ frame ! $ move ! (1 ∷ 0 ∷ []) $ frame ! $ done !)))))
 
-  module _ (𝓣 : Tables 𝓤 H) (known_no_record : Triple 𝓤 (𝓣.C #small_row·no_record) (NoRecord 𝓛 mem run)) (known_find : Triple 𝓤 (𝓣.C #find·find) (Finds 𝓛 mem run)) (s_fits : length ss < 2 ^ 64) (l_fits : length ls < 2 ^ 64) (f_fits : length fls < 2 ^ 64) (q_fits : length qs < 2 ^ 64) (h_room : Room u32 (length hs)) where
+  module _ (𝓣 : Tables 𝓤 H) (known_no_record : Triple 𝓤 (𝓣.C #small-row·no-record) (NoRecord 𝓛 mem run)) (known_find : Triple 𝓤 (𝓣.C #find·find) (Finds 𝓛 mem run)) (s_fits : length ss < 2 ^ 64) (l_fits : length ls < 2 ^ 64) (f_fits : length fls < 2 ^ 64) (q_fits : length qs < 2 ^ 64) (h_room : Room u32 (length hs)) where
     abbrev C : Calls 𝓤 H
     C = 𝓣.C
 
@@ -249,7 +249,7 @@ module _ {M : Type 1} {𝓤 : Ura M} (𝓛 : Logic 𝓤) (mem : Memory → SProp
         move ! (0 ∷ 21 ∷ []) $ free1 ! $ move ! (18 ∷ 19 ∷ []) $ free1 ! $ move ! (16 ∷ 17 ∷ []) $ free1 ! $ move ! (14 ∷ 15 ∷ []) $ free1 ! $ move ! (12 ∷ 13 ∷ []) $ free1 ! $ move ! (10 ∷ 11 ∷ []) $ free1 ! $ free0 ! $
         by ! (exits d.0 u hs₁ (d.1.1.1.0 ∙ ap (λ (n : ℕ). finding_of (answer n)) rs_length, d.1.1.1.1 ∙ ap (λ (n : ℕ). hits_over hs (answer n)) rs_length) d.1.1.0 d.1.0)))))))))))))))))))
 
-module _ {M : Type 1} {𝓤 : Ura M} (𝓛 : Logic 𝓤) (mem : Memory → SProp 𝓤) (run : Routine → Fun 𝓤) (𝓣 : Tables 𝓤 𝓛.H) (known_no_record : Triple 𝓤 (𝓣.C #small_row·no_record) (NoRecord 𝓛 mem run)) (known_find : Triple 𝓤 (𝓣.C #find·find) (Finds 𝓛 mem run)) where
+module _ {M : Type 1} {𝓤 : Ura M} (𝓛 : Logic 𝓤) (mem : Memory → SProp 𝓤) (run : Routine → Fun 𝓤) (𝓣 : Tables 𝓤 𝓛.H) (known_no_record : Triple 𝓤 (𝓣.C #small-row·no-record) (NoRecord 𝓛 mem run)) (known_find : Triple 𝓤 (𝓣.C #find·find) (Finds 𝓛 mem run)) where
   open 𝓛 use {H}
 
   walks : Walks 𝓛 f.ended stayed (WpFn 𝓤 H 𝓣.C 𝓣.Λ code.function) (f.clauses 𝓛 mem run)
@@ -271,7 +271,7 @@ pub fill_spec : {M : Type 1} → stated.statement M
 unfolding code.routine tables_of
 fill_spec 𝓤 𝓛 𝓜 𝓡 =
     entered 𝓤 𝓛.H (triple_of 𝓛 f.signature (f.spec 𝓛 𝓜.mem 𝓡.run))
-    (tables 𝓤 𝓛.H 𝓜 𝓡 code.env).C (tables 𝓤 𝓛.H 𝓜 𝓡 code.env).Λ #small_finding·fill code.function (code.unfolded 𝓤 𝓛.H 𝓜 𝓡)
+    (tables 𝓤 𝓛.H 𝓜 𝓡 code.env).C (tables 𝓤 𝓛.H 𝓜 𝓡 code.env).Λ #small-finding·fill code.function (code.unfolded 𝓤 𝓛.H 𝓜 𝓡)
     (meets 𝓛 𝓜.mem 𝓡.run (tables_of 𝓤 𝓛.H 𝓜 (tables 𝓤 𝓛.H 𝓜 𝓡 code.env))
-    (cited 𝓤 𝓛.H (NoRecord 𝓛 𝓜.mem 𝓡.run) 𝓜 𝓡 code.env #small_row·no_record no-record-def.routine code.calls-small-row::no_record_lem (no-record-thm.met 𝓤 𝓛 𝓜 𝓡))
+    (cited 𝓤 𝓛.H (NoRecord 𝓛 𝓜.mem 𝓡.run) 𝓜 𝓡 code.env #small-row·no-record no-record-def.routine code.calls-small-row::no_record_lem (no-record-thm.met 𝓤 𝓛 𝓜 𝓡))
     (cited 𝓤 𝓛.H (Finds 𝓛 𝓜.mem 𝓡.run) 𝓜 𝓡 code.env #find·find find-def.routine code.calls-find::find (find-thm.met 𝓤 𝓛 𝓜 𝓡)))

@@ -24,8 +24,8 @@ pub print_entries_spec : {M : Type 1} → stated.statement M
 unfolding code.routine tables_of
 print_entries_spec 𝓤 𝓛 𝓜 𝓡 =
     entered 𝓤 𝓛.H (triple_of 𝓛 f.signature (f.spec 𝓛 𝓜.mem 𝓡.run))
-    (tables 𝓤 𝓛.H 𝓜 𝓡 code.env).C (tables 𝓤 𝓛.H 𝓜 𝓡 code.env).Λ #small_print·print_entries code.function (code.unfolded 𝓤 𝓛.H 𝓜 𝓡)
-    (print_meets T.the_type T'.the_laws T'.the_plain blank_entry 𝓛 𝓜.mem 𝓡.run (tables_of 𝓤 𝓛.H 𝓜 (tables 𝓤 𝓛.H 𝓜 𝓡 code.env)) #small_row·get_entry #small_record·entry_line
-    (cited 𝓤 𝓛.H (Least T.the_type 𝓛 𝓜.mem 𝓡.run) 𝓜 𝓡 code.env #small_row·least least-def.routine code.calls-small-row::least (least-thm.met 𝓤 𝓛 𝓜 𝓡))
-    (cited 𝓤 𝓛.H (Get T.the_type 𝓛 blank_entry) 𝓜 𝓡 code.env #small_row·get_entry get_def.routine code.calls-small-row::get_entry (get_thm.met 𝓤 𝓛 𝓜 𝓡))
-    (cited 𝓤 𝓛.H (Line T.the_type 𝓛) 𝓜 𝓡 code.env #small_record·entry_line line-def.routine code.calls-small-record::entry_line (line-thm.met 𝓤 𝓛 𝓜 𝓡)))
+    (tables 𝓤 𝓛.H 𝓜 𝓡 code.env).C (tables 𝓤 𝓛.H 𝓜 𝓡 code.env).Λ #small-print·print-entries code.function (code.unfolded 𝓤 𝓛.H 𝓜 𝓡)
+    (print_meets T.the_type T'.the_laws T'.the_plain blank_entry 𝓛 𝓜.mem 𝓡.run (tables_of 𝓤 𝓛.H 𝓜 (tables 𝓤 𝓛.H 𝓜 𝓡 code.env)) #small-row·get-entry #small-record·entry-line
+    (cited 𝓤 𝓛.H (Least T.the_type 𝓛 𝓜.mem 𝓡.run) 𝓜 𝓡 code.env #small-row·least least-def.routine code.calls-small-row::least (least-thm.met 𝓤 𝓛 𝓜 𝓡))
+    (cited 𝓤 𝓛.H (Get T.the_type 𝓛 blank_entry) 𝓜 𝓡 code.env #small-row·get-entry get_def.routine code.calls-small-row::get_entry (get_thm.met 𝓤 𝓛 𝓜 𝓡))
+    (cited 𝓤 𝓛.H (Line T.the_type 𝓛) 𝓜 𝓡 code.env #small-record·entry-line line-def.routine code.calls-small-record::entry_line (line-thm.met 𝓤 𝓛 𝓜 𝓡)))

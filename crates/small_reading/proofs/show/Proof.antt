@@ -266,7 +266,7 @@ module _ {M : Type 1} {𝓤 : Ura M} (𝓛 : Logic 𝓤) (mem : Memory → SProp
   goes_ending : (d : Reading) (o : Out) → ent 𝓤 (sep 𝓤 (sem 𝓛 ((TD.the_row).own_val d (dv d ∷ []))) (sem 𝓛 ((TO.the_row).own_val o (ov o ∷ [])))) ((Ending 𝓛 mem run).pre (to_ending d o))
   goes_ending d o = qed 𝓛 (‵ ((TD.the_row).own_val d (dv d ∷ [])) ∷ ‵ ((TO.the_row).own_val o (ov o ∷ [])) ∷ []) ∵ nothing ! $ move ! (2 ∷ 0 ∷ []) $ fjoin ! $ move ! (1 ∷ 0 ∷ []) $ fjoin ! $ nothing ! $ join ! $ frame ! $ done !
 
-  module _ (C : Calls 𝓤 H) (Λ : Loops 𝓤 H) (fm : FmC 𝓤 H 𝓛.laws C) (known_read : Triple 𝓤 (C #read·read) (Reads 𝓛 mem run)) (Known_start : Triple 𝓤 (C #small_out·start) (Starts 𝓛 mem run)) (known_no_record : Triple 𝓤 (C #small_row·no_record) (NoRecord 𝓛 mem run)) (known_no_entry : Triple 𝓤 (C #small_row·no_entry) (NoEntry 𝓛 mem run)) (known_record_count : Triple 𝓤 (C #small_reading·record_count) (Records 𝓛 mem run)) (known_entry_count : Triple 𝓤 (C #small_reading·entry_count) (Entries 𝓛 mem run)) (known_print_records : Triple 𝓤 (C #small_print·print_records) (PrintRecords 𝓛 mem run)) (known_print_entries : Triple 𝓤 (C #small_print·print_entries) (PrintEntries 𝓛 mem run)) (known_ending : Triple 𝓤 (C #small_reading·ending) (Ending 𝓛 mem run)) where
+  module _ (C : Calls 𝓤 H) (Λ : Loops 𝓤 H) (fm : FmC 𝓤 H 𝓛.laws C) (known_read : Triple 𝓤 (C #read·read) (Reads 𝓛 mem run)) (Known_start : Triple 𝓤 (C #small-out·start) (Starts 𝓛 mem run)) (known_no_record : Triple 𝓤 (C #small-row·no-record) (NoRecord 𝓛 mem run)) (known_no_entry : Triple 𝓤 (C #small-row·no-entry) (NoEntry 𝓛 mem run)) (known_record_count : Triple 𝓤 (C #small-reading·record-count) (Records 𝓛 mem run)) (known_entry_count : Triple 𝓤 (C #small-reading·entry-count) (Entries 𝓛 mem run)) (known_print_records : Triple 𝓤 (C #small-print·print-records) (PrintRecords 𝓛 mem run)) (known_print_entries : Triple 𝓤 (C #small-print·print-entries) (PrintEntries 𝓛 mem run)) (known_ending : Triple 𝓤 (C #small-reading·ending) (Ending 𝓛 mem run)) where
     walk : length ss < 2 ^ 64 → length ls < 2 ^ 64 → ent 𝓤 (on_entry 𝓛 f.signature (κ₀, (κ₁, tt)) (q₀, (q₁, tt)) (ref_at b₀ o₀ γ₀ ss, (ref_at b₁ o₁ γ₁ ls, tt)) (sv ∷ [], (lv ∷ [], tt))) (WpFn 𝓤 H C Λ code.function (sv ∷ lv ∷ []) Post)
     walk s_fits l_fits =
         qed 𝓛 ((‵ (flft κ₀ q₀) ⊛ ‵ (flft κ₁ q₁) ⊛ ‵ ftrue) ∷ ‵ (owns (ShrSlice (named 0) κ₀ u8 ∷ ShrSlice (named 1) κ₁ u8 ∷ []) (ref_at b₀ o₀ γ₀ ss, (ref_at b₁ o₁ γ₁ ls, tt)) (sv ∷ [], (lv ∷ [], tt))) ∷ []) ∵ enter ! C Λ code.function (sv ∷ lv ∷ []) _ $
@@ -363,7 +363,7 @@ module _ {M : Type 1} {𝓤 : Ura M} (𝓛 : Logic 𝓤) (mem : Memory → SProp
         by ! (exits x (subst (Is TS.the_row x) (LL.tells TS.the_type TS'.the_laws x _ ix) ix))))))))))))))))))))))))))))))))))))))))))))))))))))
 
 module _ {M : Type 1} {𝓤 : Ura M} (𝓛 : Logic 𝓤) (mem : Memory → SProp 𝓤) (run : Routine → Fun 𝓤) (𝓣 : Tables 𝓤 𝓛.H)
-    (known_read : Triple 𝓤 (𝓣.C #read·read) (Reads 𝓛 mem run)) (Known_start : Triple 𝓤 (𝓣.C #small_out·start) (Starts 𝓛 mem run)) (known_no_record : Triple 𝓤 (𝓣.C #small_row·no_record) (NoRecord 𝓛 mem run)) (known_no_entry : Triple 𝓤 (𝓣.C #small_row·no_entry) (NoEntry 𝓛 mem run)) (known_record_count : Triple 𝓤 (𝓣.C #small_reading·record_count) (Records 𝓛 mem run)) (known_entry_count : Triple 𝓤 (𝓣.C #small_reading·entry_count) (Entries 𝓛 mem run)) (known_print_records : Triple 𝓤 (𝓣.C #small_print·print_records) (PrintRecords 𝓛 mem run)) (known_print_entries : Triple 𝓤 (𝓣.C #small_print·print_entries) (PrintEntries 𝓛 mem run)) (known_ending : Triple 𝓤 (𝓣.C #small_reading·ending) (Ending 𝓛 mem run)) where
+    (known_read : Triple 𝓤 (𝓣.C #read·read) (Reads 𝓛 mem run)) (Known_start : Triple 𝓤 (𝓣.C #small-out·start) (Starts 𝓛 mem run)) (known_no_record : Triple 𝓤 (𝓣.C #small-row·no-record) (NoRecord 𝓛 mem run)) (known_no_entry : Triple 𝓤 (𝓣.C #small-row·no-entry) (NoEntry 𝓛 mem run)) (known_record_count : Triple 𝓤 (𝓣.C #small-reading·record-count) (Records 𝓛 mem run)) (known_entry_count : Triple 𝓤 (𝓣.C #small-reading·entry-count) (Entries 𝓛 mem run)) (known_print_records : Triple 𝓤 (𝓣.C #small-print·print-records) (PrintRecords 𝓛 mem run)) (known_print_entries : Triple 𝓤 (𝓣.C #small-print·print-entries) (PrintEntries 𝓛 mem run)) (known_ending : Triple 𝓤 (𝓣.C #small-reading·ending) (Ending 𝓛 mem run)) where
   open 𝓛 use {H}
 
   walks : Walks 𝓛 f.ended stayed (WpFn 𝓤 H 𝓣.C 𝓣.Λ code.function) (f.clauses 𝓛 mem run)
@@ -382,14 +382,14 @@ pub show_spec : {M : Type 1} → stated.statement M
 unfolding code.routine tables_of
 show_spec 𝓤 𝓛 𝓜 𝓡 =
     entered 𝓤 𝓛.H (triple_of 𝓛 f.signature (f.spec 𝓛 𝓜.mem 𝓡.run))
-    (tables 𝓤 𝓛.H 𝓜 𝓡 code.env).C (tables 𝓤 𝓛.H 𝓜 𝓡 code.env).Λ #small_reading·show code.function (code.unfolded 𝓤 𝓛.H 𝓜 𝓡)
+    (tables 𝓤 𝓛.H 𝓜 𝓡 code.env).C (tables 𝓤 𝓛.H 𝓜 𝓡 code.env).Λ #small-reading·show code.function (code.unfolded 𝓤 𝓛.H 𝓜 𝓡)
     (meets 𝓛 𝓜.mem 𝓡.run (tables_of 𝓤 𝓛.H 𝓜 (tables 𝓤 𝓛.H 𝓜 𝓡 code.env))
     (cited 𝓤 𝓛.H (Reads 𝓛 𝓜.mem 𝓡.run) 𝓜 𝓡 code.env #read·read read-def.routine code.calls-read::read (read-thm.met 𝓤 𝓛 𝓜 𝓡))
-    (cited 𝓤 𝓛.H (Starts 𝓛 𝓜.mem 𝓡.run) 𝓜 𝓡 code.env #small_out·start start-def.routine code.calls-small-out::start (start-thm.met 𝓤 𝓛 𝓜 𝓡))
-    (cited 𝓤 𝓛.H (NoRecord 𝓛 𝓜.mem 𝓡.run) 𝓜 𝓡 code.env #small_row·no_record no-record-def.routine code.calls-small-row::no_record_lem (no-record-thm.met 𝓤 𝓛 𝓜 𝓡))
-    (cited 𝓤 𝓛.H (NoEntry 𝓛 𝓜.mem 𝓡.run) 𝓜 𝓡 code.env #small_row·no_entry no-entry-def.routine code.calls-small-row::no-entry (no-entry-thm.met 𝓤 𝓛 𝓜 𝓡))
-    (cited 𝓤 𝓛.H (Records 𝓛 𝓜.mem 𝓡.run) 𝓜 𝓡 code.env #small_reading·record_count record-count-def.routine code.calls-small-reading::record-count (record-count-thm.met 𝓤 𝓛 𝓜 𝓡))
-    (cited 𝓤 𝓛.H (Entries 𝓛 𝓜.mem 𝓡.run) 𝓜 𝓡 code.env #small_reading·entry_count entry-count-def.routine code.calls-small-reading::entry-count (entry-count-thm.met 𝓤 𝓛 𝓜 𝓡))
-    (cited 𝓤 𝓛.H (PrintRecords 𝓛 𝓜.mem 𝓡.run) 𝓜 𝓡 code.env #small_print·print_records print-records-def.routine code.calls-small-print::print-records (print-records-thm.met 𝓤 𝓛 𝓜 𝓡))
-    (cited 𝓤 𝓛.H (PrintEntries 𝓛 𝓜.mem 𝓡.run) 𝓜 𝓡 code.env #small_print·print_entries print-entries-def.routine code.calls-small-print::print-entries (print-entries-thm.met 𝓤 𝓛 𝓜 𝓡))
-    (cited 𝓤 𝓛.H (Ending 𝓛 𝓜.mem 𝓡.run) 𝓜 𝓡 code.env #small_reading·ending ending-def.routine code.calls-small-reading::ending (ending-thm.met 𝓤 𝓛 𝓜 𝓡)))
+    (cited 𝓤 𝓛.H (Starts 𝓛 𝓜.mem 𝓡.run) 𝓜 𝓡 code.env #small-out·start start-def.routine code.calls-small-out::start (start-thm.met 𝓤 𝓛 𝓜 𝓡))
+    (cited 𝓤 𝓛.H (NoRecord 𝓛 𝓜.mem 𝓡.run) 𝓜 𝓡 code.env #small-row·no-record no-record-def.routine code.calls-small-row::no_record_lem (no-record-thm.met 𝓤 𝓛 𝓜 𝓡))
+    (cited 𝓤 𝓛.H (NoEntry 𝓛 𝓜.mem 𝓡.run) 𝓜 𝓡 code.env #small-row·no-entry no-entry-def.routine code.calls-small-row::no-entry (no-entry-thm.met 𝓤 𝓛 𝓜 𝓡))
+    (cited 𝓤 𝓛.H (Records 𝓛 𝓜.mem 𝓡.run) 𝓜 𝓡 code.env #small-reading·record-count record-count-def.routine code.calls-small-reading::record-count (record-count-thm.met 𝓤 𝓛 𝓜 𝓡))
+    (cited 𝓤 𝓛.H (Entries 𝓛 𝓜.mem 𝓡.run) 𝓜 𝓡 code.env #small-reading·entry-count entry-count-def.routine code.calls-small-reading::entry-count (entry-count-thm.met 𝓤 𝓛 𝓜 𝓡))
+    (cited 𝓤 𝓛.H (PrintRecords 𝓛 𝓜.mem 𝓡.run) 𝓜 𝓡 code.env #small-print·print-records print-records-def.routine code.calls-small-print::print-records (print-records-thm.met 𝓤 𝓛 𝓜 𝓡))
+    (cited 𝓤 𝓛.H (PrintEntries 𝓛 𝓜.mem 𝓡.run) 𝓜 𝓡 code.env #small-print·print-entries print-entries-def.routine code.calls-small-print::print-entries (print-entries-thm.met 𝓤 𝓛 𝓜 𝓡))
+    (cited 𝓤 𝓛.H (Ending 𝓛 𝓜.mem 𝓡.run) 𝓜 𝓡 code.env #small-reading·ending ending-def.routine code.calls-small-reading::ending (ending-thm.met 𝓤 𝓛 𝓜 𝓡)))
