@@ -1,4 +1,6 @@
 // What the reader, the finder, the rewriter, the judging and the first name answer to C, as flat structs. The header is include/mrkvandel.h.
+#![tactic(auto)]
+
 ghost use Rattle.std.specs.Prelude.{◌≡◌};
 ghost use Rattle.capi_answers.specs.Flat.{flat_reading, flat_finding, flat_respelling, flat_judging, flat_part};
 
@@ -6,7 +8,7 @@ use rules::{Colour, Finding, Judging, NamePart, ReadAnswer, Reading, Respelling}
 
 // The reader's answer. `refusal` is 0 where nothing is refused, else its number, with the offset; 80 bytes.
 #[repr(C)]
-#[derive(Drop)]
+#[derive(Clone, Copy)]
 pub struct ReadResult {
     pub offset: usize,
     pub records: usize,
@@ -59,7 +61,7 @@ pub fn flat_reading(r: Reading) -> ReadResult
 
 // The finder's answer. `refusal` is 0 where nothing is refused, else its number, with the offset; 32 bytes.
 #[repr(C)]
-#[derive(Drop)]
+#[derive(Clone, Copy)]
 pub struct FindResult {
     pub offset: usize,
     pub records: usize,
@@ -88,7 +90,7 @@ pub fn flat_finding(f: Finding) -> FindResult
 
 // The rewriter's answer. `refusal` is 0 where nothing is refused, else its number, with the offset; 24 bytes.
 #[repr(C)]
-#[derive(Drop)]
+#[derive(Clone, Copy)]
 pub struct RespellResult {
     pub offset: usize,
     pub len: usize,
@@ -114,7 +116,7 @@ pub fn flat_respelling(r: Respelling) -> RespellResult
 
 // What a judging answers. `refusal` is 0 where nothing is refused, else its number, with the offset; 40 bytes.
 #[repr(C)]
-#[derive(Drop)]
+#[derive(Clone, Copy)]
 pub struct JudgeResult {
     pub offset: usize,
     pub records: usize,
@@ -154,7 +156,7 @@ pub fn flat_judging(j: Judging) -> JudgeResult
 
 // Where a first name stands. `source` is 0 for nowhere, with place and length 0, 1 for the stream, 2 for the family list; 24 bytes.
 #[repr(C)]
-#[derive(Drop)]
+#[derive(Clone, Copy)]
 pub struct FirstNameResult {
     pub place: usize,
     pub len: usize,

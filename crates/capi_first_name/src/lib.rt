@@ -1,5 +1,7 @@
 // The first name for a record as a C function: slices cross as a pointer and a length, the answer as a flat struct. The header is
 // include/mrkvandel.h.
+#![tactic(auto)]
+
 ghost use Rattle.std.specs.Prelude.{◌≡◌};
 ghost use Rattle.rules.specs.declared.NamePart.{NamePart};
 ghost use Rattle.rules.specs.Calls.{NamePartCall};

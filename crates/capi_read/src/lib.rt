@@ -1,4 +1,6 @@
 // The reader as a C function: slices cross as a pointer and a length, the answer as a flat struct. The header is include/mrkvandel.h.
+#![tactic(auto)]
+
 ghost use Rattle.std.specs.Prelude.{◌≡◌};
 ghost use Rattle.rules.specs.declared.Reading.{Reading};
 ghost use Rattle.rules.specs.Calls.{ReadCall};

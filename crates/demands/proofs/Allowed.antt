@@ -1,31 +1,30 @@
 -- What 01 allows is what the rules read: `Allowed` and `read` say the same.
-use Prim.Native.Nat.{ℕ, zero, suc, ◌+◌, ◌-◌, ◌<◌, ◌≤◌}
+use Prim.Native.Nat.{ℕ, zero, suc, ◌+◌, ◌-◌, ◌≤◌}
 use native.Mathlib.Omega.{arith}
-use mathlib.Core.Bool.{Bool, true, false}
+use mathlib.Core.Bool.{true, false}
 use mathlib.Core.List.{List, [], ◌∷◌, ◌++◌, map}
-use mathlib.Core.Path.{◌≡◌, refl, sym, ap, ap₂, subst, ◌∙◌}
-use lib.Dec.{ltb, eqb}
+use mathlib.Core.Path.{◌≡◌, refl, sym, ap, subst, ◌∙◌}
 use lib.ListN.{length, take, drop, length-append, take-append-drop}
 use borrow.Author.Tests.{ltb-false, le-ltb, eqb-true, eq-eqb, ne_eqb}
-use Rattle.rules.specs.Bytes.{if◌then◌else◌, is, is_white, is_not_newline, one_line}
+use Rattle.rules.specs.Bytes.{is, is_white, is_not_newline, one_line}
 use Rattle.rules.specs.Act.{Cmd}
-use Rattle.rules.specs.Scan.{Scan, got, bad, command, Cmds, done, wrong, next, one_command, commands, bare}
-use Rattle.rules.specs.Widths.{Widths, sound, width_list}
-use Rattle.rules.specs.State.{Env, Glyph, Item, Step, refused, went, start, steps, stopped}
+use Rattle.rules.specs.Scan.{Scan, got, bad, command, one_command, commands, bare}
+use Rattle.rules.specs.Widths.{Widths}
+use Rattle.rules.specs.State.{Env, Glyph, Item, Step, refused, went, start, steps}
 use Rattle.rules.specs.Record.{GlyphRow, ItemRow, Answer, refuse, answer, follow, seen}
-use Rattle.rules.specs.Answers.{stream_most, is_over, read, is_accepted}
+use Rattle.rules.specs.Answers.{stream_most, read, is_accepted}
 use Rattle.laws.proofs.Cases.{on, no, All, Stops, span_all, all_span, drop-span, drop_front}
 use Rattle.laws.proofs.Good.{Ended}
 use Rattle.laws_find.proofs.Written.{white_true, true_white, false_not-white, not-white_false}
 use Rattle.laws_scan.proofs.Bounds.{span_le, command-within}
 use Rattle.laws_scan.proofs.Walk.{commands-drop}
-use Rattle.laws_read.proofs.Placed.{finish, finish_well, seen-follow, seen-goes, did_go, ended as Ended_of}
+use Rattle.laws_read.proofs.Placed.{finish, finish_well, seen-follow, did_go, ended as Ended_of}
 use Rattle.laws_answers.specs.Statements.{cmds_of}
 use Rattle.laws_answers.specs.Statements as T
 use Rattle.laws_answers.proofs.Theorems.{SoundInputs, sound_of, read-follow, read_says, all_well}
 use Rattle.laws_read.proofs.Runs.{well}
 use Rattle.laws_offsets.specs.Groups.{NoNewline}
-use Rattle.demands.specs.Demands.{LineBreak, SoundList, ConsistsOf, ended, white, comment, one, Allowed, Accepted}
+use Rattle.demands.specs.Demands.{LineBreak, SoundList, ConsistsOf, ended, white, comment, one, Allowed}
 
 -- ---- the commands that a stream consists of are those that are read
 

@@ -1,5 +1,5 @@
 -- Family lists (2026-01): which are sound, and what a name has of one: one family, or none.
-use Prim.Native.Nat.{ℕ, ◌+◌, ◌<◌, ◌≤◌}
+use Prim.Native.Nat.{ℕ, ◌+◌, ◌≤◌}
 use native.Mathlib.Omega.{arith}
 use mathlib.Core.Bool.{Bool, true, false}
 use mathlib.Core.List.{List, [], ◌∷◌, ◌++◌}
@@ -16,7 +16,6 @@ use Rattle.laws_find.specs.Occurs.{Has, InOne, Match}
 use Rattle.laws_find.specs.Written.{GoodName}
 use Rattle.laws_find.proofs.Families.{in_has, has_in, Parted, grouped_parted}
 use Rattle.laws_offsets.specs.Groups.{name_text, others_text, family_text, AtNames, GoodFamilies}
-use Rattle.laws_offsets.specs.Lists.{FamilyOffset}
 use Rattle.laws_offsets.proofs.Families.{is_grouped, Claim, family_claim, family_texts}
 use Rattle.laws_offsets.proofs.FamilyLines.{family_lines}
 use Rattle.laws_offsets.proofs.Exactly.{exactly}

@@ -1,7 +1,7 @@
 -- The demands, proved of calls of the finder.
 use Prim.Native.Nat.{ℕ, zero, suc, ◌+◌, ◌<◌, ◌≤◌}
 use native.Mathlib.Omega.{arith}
-use mathlib.Core.Bool.{Bool, true, false, ◌||◌}
+use mathlib.Core.Bool.{Bool, true, false}
 use mathlib.Core.List.{List, [], ◌∷◌, ◌++◌, map, map-map}
 use mathlib.Core.Logic.{◌⊎◌, inl, inr}
 use mathlib.Core.Path.{◌≡◌, refl, sym, ap, ap₂, subst, ◌∙◌}
@@ -13,16 +13,16 @@ use Rattle.rules.specs.declared.Entry.{Entry}
 use Rattle.rules.specs.declared.Reading.{Reading}
 use Rattle.rules.specs.declared.Finding.{Finding}
 use Rattle.rules.specs.declared.Finding.TheVariants as F
-use Rattle.rules.specs.Act.{Act, glyph, to, by, Cmd, just, word, pair}
-use Rattle.rules.specs.State.{Env, Glyph, Item}
+use Rattle.rules.specs.Act.{Cmd}
+use Rattle.rules.specs.State.{Glyph}
 use Rattle.rules.specs.Record.{GlyphRow, ItemRow, Answer, refuse, answer, record_of, over}
 use Rattle.rules.specs.Families.{Family}
 use Rattle.rules.specs.Find.{Wanted, Key, key, query, well_formed, sought, hits_from}
-use Rattle.rules.specs.Answers.{is_over, read, is_accepted, Found, not_found, found, key_of, find, found_in, find_into, finding_of, records_found, hits_over}
+use Rattle.rules.specs.Answers.{is_over, read, Found, not_found, found, key_of, find, found_in, find_into, finding_of, records_found, hits_over}
 use Rattle.rules.specs.Calls.{ReadCall, FindCall}
 use Rattle.laws.proofs.Cases.{on, no, or_true}
 use Rattle.laws_read.specs.Outline.{Sign, byte_sign, signs_of, outline, keys_from}
-use Rattle.laws_find.specs.Occurs.{key_at, wanted_at, GapAsAsked, Match, OccursAt, Elem, Above, Rising}
+use Rattle.laws_find.specs.Occurs.{key_at, wanted_at, GapAsAsked, Match, OccursAt, Elem, Above}
 use Rattle.laws_find.specs.Written.{written, GoodQuery}
 use Rattle.laws_find.proofs.Families.{Parted}
 use Rattle.laws_find.proofs.Exact.{hits_rise, hits_occur, occurs_hits}
@@ -34,7 +34,7 @@ use Rattle.laws_offsets.specs.Offsets.{FindOffset, one_too_long, OrRoom, Said}
 use Rattle.laws_offsets.proofs.Offsets.{offsets}
 use Rattle.laws_offsets.proofs.ByNumber.{by_number}
 use Rattle.laws_offsets.proofs.Exactly.{exactly}
-use Rattle.demands.specs.Demands.{SoundFamilies, Allowed, Accepted, recorded, set, IsAccepted, WellFormed, ListOf, FoundAll, SetBy, none, c_or_C, t_or_u, two_digits, motion, Motion, to_place, by_way, SetOtherwise, ended, same, otherwise, moved, moved₂, SameList, Alike, AlikeByFamilies}
+use Rattle.demands.specs.Demands.{SoundFamilies, Accepted, recorded, set, IsAccepted, WellFormed, ListOf, FoundAll, SetBy, none, c_or_C, t_or_u, two_digits, motion, Motion, to_place, by_way, SetOtherwise, ended, same, otherwise, moved, moved₂, SameList, Alike, AlikeByFamilies}
 use Rattle.demands.proofs.Allowed.{ReadsTo, allowed_reads, allowed_accepted, commands_are, Stream, read_allowed}
 use Rattle.demands.proofs.Families.{sound_parted, match_back, match_on}
 use Rattle.demands.proofs.ReadCalls.{take_over, drop_over, length_over, glyphs-seen, rows_stand, Rows, accepted_call}

@@ -19,7 +19,6 @@ use Rattle.rules.specs.Calls.{NamePartCall, FirstNameCall}
 use Rattle.laws.proofs.Cases.{on}
 use Rattle.laws_find.specs.Occurs.{Has}
 use Rattle.laws_find.specs.Written.{GoodName}
-use Rattle.laws_find.proofs.Families.{Parted}
 use Rattle.laws_offsets.proofs.Exactly.{exactly}
 use Rattle.demands.specs.Demands.{SoundFamilies, UnsoundFamilies, FamilyIn, SeenGlyph, recorded, set, FirstNameOf, in_family, in_none, PartOf, nowhere, of_stream, of_families, HandsBack, EachFirstName, FirstNames}
 use Rattle.demands.proofs.Families.{sound_parted, each_list, family_is, family_none, InOrNot, in_or_not, stands, stands_inside, name_good}

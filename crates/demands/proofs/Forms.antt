@@ -1,15 +1,15 @@
 -- How glyphs, words, two digits and commands of one number are written: what is said of bytes is what the rules' tests say.
 use Prim.Native.Nat.{ℕ, ◌+◌, ◌*◌, ◌-◌, ◌≤◌}
 use native.Mathlib.Omega.{arith}
-use mathlib.Core.Bool.{Bool, true, false, ◌&&◌}
+use mathlib.Core.Bool.{true, false}
 use mathlib.Core.List.{List, [], ◌∷◌, ◌++◌}
 use mathlib.Core.Logic.{◌⊎◌, inl, inr}
 use mathlib.Core.Path.{◌≡◌, refl, ◌∙◌}
 use lib.Dec.{leb}
 use lib.ListN.{length}
-use borrow.Author.Tests.{le-leb, lt-leb, leb-true}
+use borrow.Author.Tests.{le-leb, leb-true}
 use Rattle.rules.specs.Bytes.{is_space, is_not_white, is_not_newline, is_digit, most, origin, within, near}
-use Rattle.rules.specs.Act.{across, down, Act, glyph, index, to, by, page, font, size, just, word, pair}
+use Rattle.rules.specs.Act.{across, down, glyph, index, to, by, page, font, size, just, word, pair}
 use Rattle.rules.specs.Scan.{letter, got, bad, cleared, command}
 use Rattle.rules.specs.Record.{shown}
 use Rattle.rules.specs.House.{signed_decimal}
@@ -22,7 +22,7 @@ use Rattle.laws_find.proofs.Written.{not-white_false}
 use Rattle.laws_print.proofs.Forms as print
 use Rattle.laws_motion.specs.Motions.{InLimit}
 use Rattle.laws_motion.proofs.Moved.{numbers_hold}
-use Rattle.laws_scan.specs.Texts.{Digit, Spacer, NoDigit}
+use Rattle.laws_scan.specs.Texts.{Spacer, NoDigit}
 use Rattle.demands.specs.Demands.{LineBreak, NumberForms, FiveForms, BarredForms}
 
 -- ---- spacers, strings, line breaks and the ends of numbers

@@ -1,4 +1,5 @@
 -- Each record's place is where its name stands in the command that set its glyph; each entry's is where its command stands.
+use Rattle.std.specs.Prelude.{if◌then◌else◌}
 use Prim.Native.Nat.{ℕ, suc, ◌+◌, ◌-◌, ◌≤◌}
 use native.Mathlib.Omega.{arith}
 use mathlib.Core.Bool.{true}
@@ -9,7 +10,7 @@ use borrow.Author.Tests.{ne_eqb}
 use Rattle.rules.specs.declared.Record.{Record}
 use Rattle.rules.specs.declared.Entry.{Entry}
 use Rattle.rules.specs.declared.Reading.{Reading}
-use Rattle.rules.specs.Bytes.{if◌then◌else◌, bytes, one_line}
+use Rattle.rules.specs.Bytes.{bytes, one_line}
 use Rattle.rules.specs.Act.{Cmd, just, word, pair}
 use Rattle.rules.specs.Scan.{commands}
 use Rattle.rules.specs.Widths.{Widths}

@@ -1,8 +1,7 @@
 -- The demands, proved of calls of the reader.
 use Prim.Native.Nat.{ℕ, ◌<◌, ◌≤◌}
 use native.Mathlib.Omega.{arith}
-use mathlib.Core.Bool.{true, ◌||◌}
-use mathlib.Core.List.{List, [], ◌∷◌, ◌++◌, map}
+use mathlib.Core.List.{List, [], ◌∷◌, map}
 use mathlib.Core.Logic.{◌⊎◌, inl, inr}
 use mathlib.Core.Path.{◌≡◌, refl, sym, ap, ap₂, subst, ◌∙◌}
 use lib.Dec.{ltb}
@@ -15,10 +14,10 @@ use Rattle.rules.specs.declared.ReadAnswer.TheVariants as R
 use Rattle.rules.specs.declared.Reading.{Reading}
 use Rattle.rules.specs.State.{Env, Glyph, Item}
 use Rattle.rules.specs.Widths.{Widths}
-use Rattle.rules.specs.Record.{GlyphRow, ItemRow, Answer, refuse, answer, shown, record_of, letters_of, entry_of, colour_of, over}
+use Rattle.rules.specs.Record.{GlyphRow, ItemRow, Answer, refuse, answer, shown, record_of, entry_of, over}
 use Rattle.rules.specs.Answers.{read, room_for, read_into, reading_of, records_over, entries_over}
 use Rattle.rules.specs.Calls.{ReadCall}
-use Rattle.laws.proofs.Cases.{on, no, or_true, take_front, drop_front}
+use Rattle.laws.proofs.Cases.{on, or_true, take_front, drop_front}
 use Rattle.laws_scan.proofs.Names.{AllRows, RowIn, RowsOf, read_stands}
 use Rattle.laws_answers.proofs.Theorems.{roomy}
 use Rattle.laws_answers.proofs.Numbers.{not_13, numbers}
@@ -26,7 +25,7 @@ use Rattle.laws_offsets.specs.Offsets.{ReadOffset, OrRoom, Said}
 use Rattle.laws_offsets.proofs.Offsets.{offsets}
 use Rattle.laws_offsets.proofs.ByNumber.{by_number}
 use Rattle.laws_offsets.proofs.Exactly.{exactly}
-use Rattle.demands.specs.Demands.{SoundList, Allowed, SeenGlyph, recorded, set, SeenEntry, entered, drawn, IsAccepted, RecordedAll, RecordEach}
+use Rattle.demands.specs.Demands.{SoundList, Allowed, SeenGlyph, recorded, set, entered, drawn, IsAccepted, RecordedAll}
 use Rattle.demands.proofs.Allowed.{ReadsTo, allowed_reads, Stream, read_allowed}
 
 -- ---- rows

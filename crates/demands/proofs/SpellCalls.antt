@@ -1,13 +1,11 @@
 -- The demands, proved of calls of the rewriter, and of reading what it gives.
 use Prim.Native.Nat.{ℕ, ◌<◌, ◌≤◌}
 use native.Mathlib.Omega.{arith}
-use mathlib.Core.Bool.{true}
 use mathlib.Core.List.{List, [], ◌∷◌, ◌++◌, map}
 use mathlib.Core.Logic.{◌⊎◌, inl, inr}
 use mathlib.Core.Path.{◌≡◌, refl, sym, ap, ap₂, subst, ◌∙◌}
-use lib.Dec.{ltb}
 use lib.IntN.{ℤ}
-use lib.ListN.{length, take, drop, length-map}
+use lib.ListN.{length, take, drop}
 use borrow.Author.Tests.{ltb-true, ltb-false, lt-ltb}
 use Rattle.rules.specs.declared.Record.{Record}
 use Rattle.rules.specs.declared.Entry.{Entry}
@@ -16,17 +14,16 @@ use Rattle.rules.specs.declared.ReadAnswer.TheVariants as R
 use Rattle.rules.specs.declared.Reading.{Reading}
 use Rattle.rules.specs.declared.Respelling.{Respelling}
 use Rattle.rules.specs.declared.Respelling.TheVariants as S
-use Rattle.rules.specs.Act.{Axis, Act, to, Cmd, just}
+use Rattle.rules.specs.Act.{Axis, Act, to, just}
 use Rattle.rules.specs.State.{Env, Glyph, Item, went, start}
-use Rattle.rules.specs.Widths.{Widths, WidthList, unsound, sound, width_list}
+use Rattle.rules.specs.Widths.{Widths, WidthList, unsound, sound}
 use Rattle.rules.specs.Record.{GlyphRow, ItemRow, Answer, refuse, answer, seen}
-use Rattle.rules.specs.Answers.{stream_most, is_over, read, reading_of, Spelling, not_spelled, spelled, respell, spelling_in, respell_into, respelling_of, buffer_over}
+use Rattle.rules.specs.Answers.{stream_most, is_over, read, Spelling, not_spelled, spelled, respell, spelling_in, respell_into, respelling_of, buffer_over}
 use Rattle.rules.specs.Calls.{ReadCall, RespellCall}
 use Rattle.laws.proofs.Cases.{on}
 use Rattle.laws_read.specs.Kept.{all_kept}
 use Rattle.laws_read.specs.Spots.{spots_of}
-use Rattle.laws_answers.specs.Statements.{cmds_of, house_text}
-use Rattle.laws_answers.specs.Statements as T
+use Rattle.laws_answers.specs.Statements.{house_text}
 use Rattle.laws_answers.proofs.Theorems.{again, fixed_point, roomy, one_spelling, limits_hold}
 use Rattle.laws_offsets.specs.Offsets.{InTableTo}
 use Rattle.laws_answers.proofs.Numbers.{not_13, numbers}
@@ -38,9 +35,9 @@ use Rattle.laws_house.specs.Lines.{HouseText}
 use Rattle.laws_house.proofs.Spelt.{spelt_in_lines}
 use Rattle.laws_needed.specs.Statement.{OnlyWhereItDiffers}
 use Rattle.laws_needed.proofs.Theorem.{motions_needed}
-use Rattle.demands.specs.Demands.{SoundList, ConsistsOf, Allowed, recorded, set, entered, drawn, IsAccepted, RecordedAll, house_spelling, ReadTheSame}
+use Rattle.demands.specs.Demands.{SoundList, ConsistsOf, Allowed, recorded, entered, IsAccepted, RecordedAll, house_spelling, ReadTheSame}
 use Rattle.demands.proofs.Allowed.{consists_read, ReadsTo, reads_to, allowed_reads, allowed_accepted, commands_are, Stream, read_allowed}
-use Rattle.demands.proofs.ReadCalls.{take_over, drop_over, length_over, Rows, accepted_call, records_each, only_allowed}
+use Rattle.demands.proofs.ReadCalls.{take_over, length_over, records_each, only_allowed}
 
 -- what the list says is one thing
 abbrev widths_in : Widths → WidthList → Widths

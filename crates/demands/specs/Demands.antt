@@ -4,7 +4,7 @@
 --
 -- s is a stream, list a width list, fl a family list (2026-01), q a query; rs, es and hs are the lent rows of records, entries and record
 -- numbers, o is the lent buffer; r is the answer, and what the rows and the buffer hold afterwards has a prime.
-use Rattle.std.specs.Prelude.{ℕ, ◌+◌, ◌*◌, ◌-◌, ◌<◌, ◌≤◌, Bool, true, false, List, [], ◌∷◌, ◌++◌, map, ◌⊎◌, ◌≡◌, ℤ, length, take, drop}
+use Rattle.std.specs.Prelude.{ℕ, ◌+◌, ◌*◌, ◌-◌, ◌<◌, ◌≤◌, Bool, true, false, List, [], ◌∷◌, ◌++◌, map, ◌⊎◌, ◌≡◌, ℤ, length, take, drop, if◌then◌else◌}
 use Rattle.rules.specs.declared.Record.{Record}
 use Rattle.rules.specs.declared.Entry.{Entry}
 use Rattle.rules.specs.declared.Colour.{Colour}
@@ -18,7 +18,7 @@ use Rattle.rules.specs.declared.Finding.TheVariants as F
 use Rattle.rules.specs.declared.Judging.TheVariants as J
 use Rattle.rules.specs.declared.NamePart.{NamePart}
 use Rattle.rules.specs.declared.NamePart.TheVariants as N
-use Rattle.rules.specs.Bytes.{if◌then◌else◌, bytes, origin}
+use Rattle.rules.specs.Bytes.{bytes, origin}
 use Rattle.rules.specs.Act.{Axis, across, down, Act, glyph, index, to, by, page, font, size, device, resolution, init, stop, Cmd, just, word, pair}
 use Rattle.rules.specs.Scan.{got, bad, command}
 use Rattle.rules.specs.Widths.{Widths, sound, width_list}

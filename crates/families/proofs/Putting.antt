@@ -1,4 +1,5 @@
 -- The table and the marks with one name more.
+use Rattle.std.specs.Prelude.{if◌then◌else◌}
 use Prim.Native.Nat.{ℕ, zero, suc, ◌+◌, ◌*◌, ◌-◌, ◌≤◌, ◌<◌}
 use native.Mathlib.Omega.{arith}
 use mathlib.Core.Bool.{Bool, true, false}
@@ -9,7 +10,7 @@ use lib.Dec.{ltb, eqb}
 use lib.ListN.{length, get_or, set, length-set}
 use lib.Seq.{get_or-set_same, get_or-set_other}
 use borrow.Author.Tests.{ltb-true, ltb-false, eqb-true, eqb-false}
-use Rattle.rules.specs.Bytes.{if◌then◌else◌, same}
+use Rattle.rules.specs.Bytes.{same}
 use Rattle.rules.specs.Families.{Family, names_in, is_in, family_of, is_none}
 use Rattle.laws.proofs.Cases.{on, no}
 use Rattle.laws.proofs.Same.{same_eq}
@@ -116,13 +117,15 @@ module _ (fl tab : List ℕ) (place len : ℕ) (l : length tab ≡ 4609) where
   unfolding families_at names_at
   put_begun n h g =
       let z : n * 8 + 1 - 1 ≡ n * 8 = omega arith in
+      let t : families_at fl (more tab (n * 8) n place len 1 l (omega arith) h) (suc n) ≡ begun place (part_of fl place len) (families_at fl tab n) =
       rw (
-        z,
         new_size tab (n * 8) n place len 1 l (omega arith) h,
         new_place tab (n * 8) n place len 1 l (omega arith) h,
         new_len tab (n * 8) n place len 1 l (omega arith) h,
         kept_families tab (n * 8) n place len 1 l (omega arith) h fl n (omega arith) (omega arith) g,
       )
+      in
+      ap (λ (i : ℕ). families_at fl (set (set (set tab i place) (2048 + i) len) (4096 + n) 1) (suc n)) z ∙ t
 
   pub put_grown : (n size : ℕ) → n < 256 → size < 8 → Sized tab (suc n) → newest_size (families_at fl tab (suc n)) ≡ size
       → families_at fl (put_at tab n (size + 1) place len) (suc n) ≡ grown (part_of fl place len) (families_at fl tab (suc n))
@@ -134,8 +137,8 @@ module _ (fl tab : List ℕ) (place len : ℕ) (l : length tab ≡ 4609) where
       let w : size + 1 - 1 ≡ suc (size - 1) = omega arith in
       let y : n * 8 + 1 + (size - 1) ≡ n * 8 + size = omega arith in
       let i : ℕ = n * 8 + size in
+      let more' : families_at fl (more tab i n place len (size + 1) l (omega arith) h) (suc n) ≡ grown (part_of fl place len) (families_at fl tab (suc n)) =
       rw (
-        z,
         new_size tab i n place len (size + 1) l (omega arith) h,
         w,
         y,
@@ -147,6 +150,8 @@ module _ (fl tab : List ℕ) (place len : ℕ) (l : length tab ≡ 4609) where
         kept_families tab i n place len (size + 1) l (omega arith) h fl n (omega arith) (omega arith) (sized_less tab n g),
         t,
       )
+      in
+      ap (λ (k : ℕ). families_at fl (set (set (set tab k place) (2048 + k) len) (4096 + n) (size + 1)) (suc n)) z ∙ more'
 
 module _ (tab : List ℕ) (n size place len : ℕ) (l : length tab ≡ 4609) where
   pub put_sized : n < 256 → 1 ≤ size → size ≤ 8 → Sized tab n → Sized (put_at tab n size place len) (suc n)

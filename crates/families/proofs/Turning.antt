@@ -1,4 +1,5 @@
 -- One line of the family list further: what is still to come, put behind the families read so far, stays the whole.
+use Rattle.std.specs.Prelude.{if◌then◌else◌}
 use Prim.Native.Nat.{ℕ, zero, suc, ◌+◌, ◌-◌, ◌≤◌, ◌<◌}
 use native.Mathlib.Omega.{arith}
 use native.Mathlib.Numerals.{add-one}
@@ -11,7 +12,7 @@ use lib.ListN.{length, take, drop, set, length-set}
 use lib.Seq.{drop-drop}
 use borrow.Author.Rules.{rules}
 use borrow.Author.Tests.{lt-ltb, le-ltb, ltb-true, ltb-false, ne_eqb}
-use Rattle.rules.specs.Bytes.{if◌then◌else◌, bytes, same, is_not_newline}
+use Rattle.rules.specs.Bytes.{bytes, same, is_not_newline}
 use Rattle.rules.specs.Widths.{lines_from, behind}
 use Rattle.rules.specs.Families.{Family, family_of, is_none, is_new_name, is_whole, name_line, same_line, family_line, FamilyList, ill_grouped, grouped, families_end, families_on, family_lines, family_list}
 use Rattle.laws.proofs.Cases.{on, no, and_left, and_right}

@@ -1,6 +1,5 @@
 -- The family list line by line, as the code goes over it.
-use Rattle.std.specs.Prelude.{ℕ, zero, suc, ◌+◌, ◌-◌, ◌*◌, ◌≤◌, ◌<◌, true, ◌&&◌, List, [], ◌∷◌, ◌≡◌, length, take, drop, get_or, set}
-use Rattle.rules.specs.Bytes.{if◌then◌else◌}
+use Rattle.std.specs.Prelude.{ℕ, zero, suc, ◌+◌, ◌-◌, ◌*◌, ◌≤◌, ◌<◌, true, ◌&&◌, List, [], ◌∷◌, ◌≡◌, length, take, drop, get_or, set, if◌then◌else◌}
 use Rattle.rules.specs.Widths.{lines_from}
 use Rattle.rules.specs.Families.{Family, is_none, family_of, is_new_name, FamilyList, ill_grouped, grouped, family_lines, family_list}
 use Rattle.families_table.specs.Table.{families_at, Sized}

@@ -1,18 +1,20 @@
 // The family list (request 2026-01), judged, and its families in the table.
+#![tactic(auto)]
+
 ghost use Rattle.std.specs.Prelude.{◌≡◌, ◌+◌, ◌-◌, ◌≤◌, ◌<◌, length};
 ghost use Rattle.rules.specs.Families.{is_new_name, family_list};
 ghost use Rattle.families_table.specs.Table.{families_at, Sized};
 ghost use Rattle.families.specs.Loading.{Marked, line_key, next_of, put_at, Slot, Going, Turned, answer_of, Loaded};
 
 // The offset of refusal 14, or how many families there are.
-#[derive(Drop)]
+#[derive(Clone, Copy)]
 pub enum FamilyAnswer {
     IllGrouped { offset: usize },
     Grouped { families: usize },
 }
 
 // Between two lines: the next line's place, how many families were read, and how many names the newest of them has.
-#[derive(Drop)]
+#[derive(Clone, Copy)]
 struct FamilyState {
     at: usize,
     families: usize,
@@ -20,7 +22,7 @@ struct FamilyState {
 }
 
 // The state behind the line, or the line is wrong.
-#[derive(Drop)]
+#[derive(Clone, Copy)]
 enum Flow {
     On(FamilyState),
     Stop,

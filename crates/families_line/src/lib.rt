@@ -1,4 +1,6 @@
 // One line of the family list (request 2026-01): its key, whether a line with that key may stand there, and the mark of its name.
+#![tactic(auto)]
+
 ghost use Rattle.std.specs.Prelude.{◌≡◌, ◌<◌};
 ghost use Rattle.families_line.specs.Line.{key_of, may_stand, mark_of};
 

@@ -1,7 +1,6 @@
 -- The family table as the code holds it, in the first 4352 of 4609 places: 8 names for each of 256 families, by their places in the list,
 -- from 2048 on their lengths, and from 4096 on how many names each family has. (The query stands behind it: `find_match`.)
-use Rattle.std.specs.Prelude.{ℕ, zero, suc, ◌+◌, ◌*◌, ◌-◌, ◌<◌, ◌≤◌, ◌&&◌, List, [], ◌∷◌, ltb, leb, length, get_or}
-use Rattle.rules.specs.Bytes.{if◌then◌else◌}
+use Rattle.std.specs.Prelude.{ℕ, zero, suc, ◌+◌, ◌*◌, ◌-◌, ◌<◌, ◌≤◌, ◌&&◌, List, [], ◌∷◌, ltb, leb, length, get_or, if◌then◌else◌}
 use Rattle.rules.specs.Families.{Family, names_in, is_in}
 use Rattle.name.specs.Part.{part_of}
 

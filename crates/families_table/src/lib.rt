@@ -1,4 +1,6 @@
 // The family table (request 2026-01): the names of each family by their places in the family list, and the family of a name.
+#![tactic(auto)]
+
 ghost use Rattle.std.specs.Prelude.{◌≡◌, ◌+◌, ◌≤◌, ◌<◌, length};
 ghost use Rattle.rules.specs.Bytes.{same};
 ghost use Rattle.rules.specs.Families.{is_in};

@@ -1,5 +1,7 @@
 // The finder (document 01, "Finding"): a stream with its width list, a family list, a query, and two lent rows. One pass judges the stream, and
 // where nothing is against it a second one fills the records, and the search lists the hits.
+#![tactic(auto)]
+
 ghost use Rattle.rules.specs.Calls.{FindCall};
 
 use rules::{Entry, Finding, Record};

@@ -1,8 +1,9 @@
 -- The row of a finding: the query, put behind the families, the family of each of its names, and what the row holds then.
+use Rattle.std.specs.Prelude.{if◌then◌else◌}
 use Prim.Native.Nat.{ℕ, zero, suc, ◌+◌, ◌*◌, ◌-◌, ◌<◌, ◌≤◌}
 use native.Mathlib.Omega.{arith}
 use native.Mathlib.Decide.{ℕ_discrete}
-use mathlib.Core.Bool.{Bool, true, false, ◌&&◌, ◌||◌}
+use mathlib.Core.Bool.{Bool, true, false, ◌&&◌}
 use mathlib.Core.List.{List, [], ◌∷◌}
 use mathlib.Core.Option.{Option, none, some}
 use mathlib.Core.Path.{◌≡◌, refl, sym, ap, ap₂, subst, ◌∙◌}
@@ -11,7 +12,7 @@ use lib.ListN.{length, get_or, set, length-set}
 use lib.Seq.{get_or-set_same, get_or-set_other}
 use borrow.Author.Rules.{rules}
 use borrow.Author.Tests.{lt-ltb, le-ltb, ltb-true, leb-true}
-use Rattle.rules.specs.Bytes.{if◌then◌else◌, bytes, same}
+use Rattle.rules.specs.Bytes.{bytes, same}
 use Rattle.rules.specs.Answers.{is_over}
 use Rattle.rules.specs.Widths.{Line, lines_from, behind, is_list_name}
 use Rattle.rules.specs.Families.{Family, names_of, family_of, family_list}

@@ -1,6 +1,5 @@
 -- The query's row, and what is answered of the family list and the query. In the code's own steps.
-use Rattle.std.specs.Prelude.{ℕ, ◌+◌, ◌-◌, ◌<◌, ◌≤◌, Bool, true, false, ◌||◌, List, ◌≡◌, ltb, length, get_or}
-use Rattle.rules.specs.Bytes.{if◌then◌else◌}
+use Rattle.std.specs.Prelude.{ℕ, ◌+◌, ◌-◌, ◌<◌, ◌≤◌, Bool, true, false, ◌||◌, List, ◌≡◌, ltb, length, get_or, if◌then◌else◌}
 use Rattle.rules.specs.Families.{Family, FamilyList, ill_grouped, grouped, family_list}
 use Rattle.rules.specs.Find.{Wanted, Query, ill_formed, well_formed, query}
 use Rattle.rules.specs.Answers.{is_over}

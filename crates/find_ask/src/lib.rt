@@ -1,4 +1,6 @@
 // The family list and the query of a finding, judged; the query put into one row, with the family of each of its names.
+#![tactic(auto)]
+
 ghost use Rattle.std.specs.Prelude.{◌≡◌, ◌≤◌, ◌<◌, length};
 ghost use Rattle.name.specs.Part.{part_of};
 ghost use Rattle.families_table.specs.Table.{families_at, Sized, owner_of};
@@ -9,7 +11,7 @@ use families::FamilyAnswer;
 use query::QueryAnswer;
 
 // Whether the family list and the query are in order: 0, or the number and the offset of the refusal.
-#[derive(Drop)]
+#[derive(Clone, Copy)]
 pub struct Asked {
     pub refusal: u32,
     pub offset: usize,

@@ -1,7 +1,6 @@
 -- One comparison of a search, in the code's own steps.
-use Rattle.std.specs.Prelude.{ℕ, ◌+◌, ◌*◌, ◌-◌, ◌<◌, ◌≤◌, Bool, List, ◌≡◌, ltb, eqb}
+use Rattle.std.specs.Prelude.{ℕ, ◌+◌, ◌*◌, ◌-◌, ◌<◌, ◌≤◌, Bool, List, ◌≡◌, ltb, eqb, if◌then◌else◌}
 use Rattle.rules.specs.declared.Record.{Record}
-use Rattle.rules.specs.Bytes.{if◌then◌else◌}
 use Rattle.rules.specs.Find.{passes, glyph_test}
 use Rattle.find_match.specs.Match.{key_in, record_key, sought_in}
 use Rattle.find_compare.specs.declared.Progress.{Progress}

@@ -1,4 +1,6 @@
 // One comparison of a search: a record with a glyph of the query, and where the search stands behind it.
+#![tactic(auto)]
+
 ghost use Rattle.std.specs.Prelude.{◌≡◌, ◌<◌, ◌≤◌, length};
 ghost use Rattle.find_compare.specs.Compare.{next_record, next_glyph, page_of, fits_at, passed, hit_at, fitted, feed_of, SearchGood};
 
@@ -6,7 +8,7 @@ use rules::Record;
 
 // Where the search stands. `left` is 0 once it is done; the record that is asked, how many glyphs of the query were found at it, and
 // the page of the first one; how many hits there are, and the room for them.
-#[derive(Drop)]
+#[derive(Clone, Copy)]
 pub struct Progress {
     pub left: usize,
     pub at: usize,
@@ -19,13 +21,13 @@ pub struct Progress {
 }
 
 // What a turn gives to the row of hits: the record's number at a place, or nothing.
-#[derive(Drop)]
+#[derive(Clone, Copy)]
 pub enum FindAct {
     Hit(usize, u32),
     Pass,
 }
 
-#[derive(Drop)]
+#[derive(Clone, Copy)]
 pub struct Fed {
     pub act: FindAct,
     pub state: Progress,

@@ -1,4 +1,5 @@
 -- Records found one by one, a query at one of them, and how many hits there are.
+use Rattle.std.specs.Prelude.{if◌then◌else◌}
 use Prim.Native.Nat.{ℕ, zero, suc, ◌+◌, ◌-◌, ◌<◌, ◌≤◌}
 use native.Mathlib.Omega.{arith}
 use mathlib.Core.Bool.{Bool, true, false, ◌&&◌}
@@ -7,7 +8,6 @@ use mathlib.Core.Path.{◌≡◌, refl, sym, ap, ◌∙◌}
 use lib.Dec.{ltb}
 use lib.ListN.{length}
 use borrow.Author.Rules.{rules}
-use Rattle.rules.specs.Bytes.{if◌then◌else◌}
 use Rattle.rules.specs.Find.{Sought, glyph_test, passes, goes_on, occurs, hits_from, Key as RulesKey}
 use Rattle.laws.proofs.Cases.{on, no as impossible, and_left}
 use Rattle.name.specs.Part.{part_of}

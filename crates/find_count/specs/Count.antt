@@ -1,6 +1,5 @@
 -- Records found one by one, and how many are left.
-use Rattle.std.specs.Prelude.{ℕ, suc, ◌<◌, Bool, true, false, ◌&&◌, List, [], ◌∷◌, map, ◌≡◌, length}
-use Rattle.rules.specs.Bytes.{if◌then◌else◌}
+use Rattle.std.specs.Prelude.{ℕ, suc, ◌<◌, Bool, true, false, ◌&&◌, List, [], ◌∷◌, map, ◌≡◌, length, if◌then◌else◌}
 use Rattle.rules.specs.Find.{passes, glyph_test, Key as RulesKey}
 use Rattle.find_match.specs.declared.Key.{Key}
 use Rattle.find_match.specs.Match.{key_in, sought_in}

@@ -1,5 +1,7 @@
 // How many hits a query has in a stream that was judged: what must be known before a row is written, where the row of hits may be too
 // small. The records are read off the stream's commands, with no environment.
+#![tactic(auto)]
+
 ghost use Rattle.std.specs.Prelude.{◌≡◌, ◌+◌, ◌<◌, ◌≤◌, length, map, true};
 ghost use Rattle.rules.specs.Find.{goes_on, occurs, hits_from};
 ghost use Rattle.find_match.specs.Match.{key_in, sought_from};

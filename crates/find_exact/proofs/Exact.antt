@@ -1,4 +1,5 @@
 -- The search leaves the rules' list of hits in the row.
+use Rattle.std.specs.Prelude.{if◌then◌else◌}
 use Prim.Native.Nat.{ℕ, zero, suc, ◌+◌, ◌-◌, ◌<◌, ◌≤◌, min}
 use native.Mathlib.Omega.{arith}
 use native.Mathlib.Numerals.{add-one}
@@ -10,7 +11,6 @@ use lib.ListN.{length, take, drop, get_or, set, length-append, length-take, drop
 use lib.Seq.{sets, drop-cons, get_or-take}
 use borrow.Author.Tests.{eq-eqb, ne_eqb, lt-ltb, ltb-true, ltb-false, eqb-true}
 use Rattle.rules.specs.declared.Record.{Record}
-use Rattle.rules.specs.Bytes.{if◌then◌else◌}
 use Rattle.rules.specs.Find.{Sought, goes_on, hits_from, Key as RulesKey}
 use Rattle.rules.specs.Record.{over}
 use Rattle.laws.proofs.Cases.{on, no as impossible, if_both, not_zero}

@@ -7,7 +7,6 @@ use lib.Dec.{ltb}
 use lib.ListN.{length, drop, get_or}
 use borrow.Author.Tests.{lt-ltb, le-ltb, ltb-true, ltb-false}
 use Rattle.rules.specs.Bytes.{origin, is, is_white, one_line}
-use Rattle.rules.specs.Act.{word}
 use Rattle.laws.proofs.Cases.{on, if_both, if_on}
 use Rattle.laws_scan.proofs.Walk.{comment_in}
 use Rattle.scan_command.specs.declared.Command.{Command}
@@ -15,7 +14,6 @@ use Rattle.scan_command.specs.declared.Command.TheVariants as C
 use Rattle.scan_command.specs.View.{command_at}
 use Rattle.read_model.specs.Fits.{CommandIn}
 use Rattle.read_model.proofs.Fits.{command-fits}
-use Rattle.find_match.specs.declared.Key.{Key}
 use Rattle.find_outline.specs.declared.Outline.{Outline}
 use Rattle.find_outline.specs.declared.Moved.{Moved}
 use Rattle.find_outline.specs.Move.{standing, word_move, command_move, move_of}

@@ -1,4 +1,5 @@
 -- The keys that the moves give, from any place on, are those of the outline from there on.
+use Rattle.std.specs.Prelude.{if◌then◌else◌}
 use Prim.Native.Nat.{ℕ, zero, suc, ◌+◌, ◌-◌, ◌<◌, ◌≤◌}
 use native.Mathlib.Omega.{arith}
 use mathlib.Core.Bool.{true, false}
@@ -8,7 +9,7 @@ use lib.Dec.{ltb}
 use lib.ListN.{length, take, drop, get_or}
 use lib.Seq.{drop-drop}
 use borrow.Author.Tests.{lt-ltb, le-ltb, ltb-true, ltb-false}
-use Rattle.rules.specs.Bytes.{if◌then◌else◌, origin, is, is_white, one_line}
+use Rattle.rules.specs.Bytes.{origin, is, is_white, one_line}
 use Rattle.rules.specs.Act.{glyph, index, to, by, page, font, size, colour, break, space, draw, device, resolution, init, file, mount, plain, raw, stop, line, arc, circle, solid_circle, ellipse, solid_ellipse, polygon, solid_polygon, spline, thickness, gray_fill, colour_fill, Cmd, just, word, pair}
 use Rattle.rules.specs.Scan.{Scan, name_in, got, bad, command, Cmds, commands, bare}
 use Rattle.rules.specs.Find.{Key as RulesKey}
@@ -20,7 +21,6 @@ use Rattle.laws_scan.proofs.Walk.{from, cons_at, from_end, from_white, from_comm
 use Rattle.laws_read.specs.Outline.{Sign, named_sign, gap_sign, byte_sign, signs_of, outline, keys_from}
 use Rattle.scan_command.specs.View.{cmd_of, command_of, command_at}
 use Rattle.name.specs.Part.{part_of}
-use Rattle.find_match.specs.declared.Key.{Key}
 use Rattle.find_match.specs.Match.{key_in}
 use Rattle.find_outline.specs.declared.Outline.{Outline}
 use Rattle.find_outline.specs.declared.Moved.{Moved}

@@ -1,6 +1,5 @@
 -- The keys that the moves give, from a place on, and where a move may be made.
-use Rattle.std.specs.Prelude.{ℕ, zero, suc, ◌+◌, ◌*◌, ◌-◌, ◌<◌, ◌≤◌, List, [], ◌∷◌, ltb, length}
-use Rattle.rules.specs.Bytes.{if◌then◌else◌}
+use Rattle.std.specs.Prelude.{ℕ, zero, suc, ◌+◌, ◌*◌, ◌-◌, ◌<◌, ◌≤◌, List, [], ◌∷◌, ltb, length, if◌then◌else◌}
 use Rattle.find_match.specs.declared.Key.{Key}
 use Rattle.find_outline.specs.declared.Outline.{Outline}
 use Rattle.find_outline.specs.declared.Moved.{Moved}

@@ -1,10 +1,12 @@
 // Whether a record is the glyph that the query wants, and why not (document 01, "Finding").
+#![tactic(auto)]
+
 ghost use Rattle.std.specs.Prelude.{◌≡◌, ◌<◌, length};
 ghost use Rattle.rules.specs.Find.{same_name, passes, gap_test, glyph_test};
 ghost use Rattle.find_match.specs.Match.{key_by, gap_at, sought_in, reason_of, is_fit};
 
 // What finding looks at in a record, its name by its place.
-#[derive(Drop)]
+#[derive(Clone, Copy)]
 pub struct Key {
     pub ordinal: u32,
     pub gap: u32,
@@ -13,7 +15,7 @@ pub struct Key {
 }
 
 // It fits, or the first test that it fails.
-#[derive(Drop)]
+#[derive(Clone, Copy)]
 pub enum Reason {
     Fits,
     OtherPage,

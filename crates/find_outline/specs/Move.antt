@@ -1,6 +1,6 @@
 -- The records of a stream as finding sees them, read off its commands with no environment, in the code's own steps: one move.
-use Rattle.std.specs.Prelude.{ℕ, ◌+◌, true, false, List, ltb, length, drop, get_or}
-use Rattle.rules.specs.Bytes.{if◌then◌else◌, origin, is, is_white, one_line}
+use Rattle.std.specs.Prelude.{ℕ, ◌+◌, true, false, List, ltb, length, drop, get_or, if◌then◌else◌}
+use Rattle.rules.specs.Bytes.{origin, is, is_white, one_line}
 use Rattle.scan_command.specs.declared.Command.{Command}
 use Rattle.scan_command.specs.declared.Command.TheVariants as C
 use Rattle.scan_command.specs.View.{command_at}

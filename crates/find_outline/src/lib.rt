@@ -1,5 +1,7 @@
 // The records of a stream as finding sees them, read off its commands with no environment: one move, by a byte of a word, a command
 // or what lies between two commands.
+#![tactic(auto)]
+
 ghost use Rattle.std.specs.Prelude.{◌≡◌, ◌+◌, ◌<◌, ◌≤◌};
 ghost use Rattle.scan_command.specs.declared.Command.TheVariants as C;
 ghost use Rattle.find_outline.specs.Move.{passing, standing, naming, word_move, command_move};
@@ -9,7 +11,7 @@ use scan_command::Command;
 
 // Where the outline is read: the next place; in a word, its end and the place behind it, else 0; the gap mark of the next record;
 // the page's ordinal.
-#[derive(Drop)]
+#[derive(Clone, Copy)]
 pub struct Outline {
     pub at: usize,
     pub end: usize,
@@ -19,7 +21,7 @@ pub struct Outline {
 }
 
 // One move: whether a record stands there, its key, and where it goes on.
-#[derive(Drop)]
+#[derive(Clone, Copy)]
 pub struct Moved {
     pub found: bool,
     pub key: Key,

@@ -1,6 +1,5 @@
 -- Whether the hits have room, in the code's own steps.
-use Rattle.std.specs.Prelude.{ℕ, ◌≤◌, Bool, false, List, map, ◌≡◌, ltb, eqb, length, get_or}
-use Rattle.rules.specs.Bytes.{if◌then◌else◌}
+use Rattle.std.specs.Prelude.{ℕ, ◌≤◌, Bool, false, List, map, ◌≡◌, ltb, eqb, length, get_or, if◌then◌else◌}
 use Rattle.rules.specs.Find.{hits_from}
 use Rattle.read_model.specs.declared.State.{State}
 use Rattle.find_match.specs.Match.{key_in, sought_from}

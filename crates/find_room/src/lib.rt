@@ -1,4 +1,6 @@
 // Whether the hits of a finding have room, before a row is written.
+#![tactic(auto)]
+
 ghost use Rattle.std.specs.Prelude.{◌≡◌};
 ghost use Rattle.find_room.specs.Room.{CountReady, too_many};
 

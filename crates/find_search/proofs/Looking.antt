@@ -88,10 +88,7 @@ module _ (s q fl rows : List ℕ) (recs : List Record) (p₀ : Looked) where
   pub first_known : SearchReady (length recs) (length p₀.hits) rows p₀.state → Known p₀.state.left p₀
   first_known h = record { runs = refl; few = omega arith; good = h.good; records = h.records; hmax = h.hits; same = refl }
 
-  abbrev pub behind : Looked → Fed → Looked
-  behind p x = record { state = x.state; hits = hits_after p.hits x.act }
-
-  module _ (k : ℕ) (p : Looked) (kn : Known (suc k) p) (going : 0 < p.state.left) where
+  module _ (k : ℕ) (p : Looked) (kn : Known k p) (going : 0 < p.state.left) where
     -- the record that is asked for is there
     pub at_in : p.state.at + p.state.glyph < length recs
     at_in = omega (arith, (kn.good going).inside, kn.records)
@@ -103,21 +100,31 @@ module _ (s q fl rows : List ℕ) (recs : List Record) (p₀ : Looked) where
       pub in_row : InRow p.state x.act
       in_row = well.row
 
-      one_more : search_for (suc k) s q fl rows recs p ≡ search_for k s q fl rows recs (search_step_of s q fl rows recs p)
+      pub less : x.state.left < p.state.left
+      less = well.less
+
+      one_more : (n : ℕ) → k ≡ suc n → search_for k s q fl rows recs p ≡ search_for n s q fl rows recs (search_step_of s q fl rows recs p)
       unfolding search_for
-      one_more = rw (ne_eqb p.state.left 0 (λ z. omega arith))
+      one_more n h = rw (h, ne_eqb p.state.left 0 (λ z. omega arith))
 
-      pub next_known : Known k (behind p x)
-      next_known = record {
-        runs = ap (λ (z : Fed). search_for k s q fl rows recs (record { state = z.state; hits = hits_after p.hits z.act })) e ∙ sym one_more ∙ kn.runs;
-        few = omega (arith, well.less, kn.few);
-        good = well.good;
-        records = omega (arith, well.records, kn.records);
-        hmax = well.hmax ∙ kn.hmax;
-        same = hits_length p.hits x.act ∙ kn.same;
-      }
+      -- the search behind a turn, with what the turn left in the row
+      pub next_known : (hs : List ℕ) → hs ≡ hits_after p.hits x.act → (n : ℕ) × Known n (record { state = x.state; hits = hs })
+      next_known hs a = (
+        k - 1,
+        rw a (record {
+          runs = ap (λ (z : Fed). search_for (k - 1) s q fl rows recs (record { state = z.state; hits = hits_after p.hits z.act })) e ∙ sym (one_more (k - 1) (omega (arith, kn.few))) ∙ kn.runs;
+          few = omega (arith, well.less, kn.few);
+          good = well.good;
+          records = omega (arith, well.records, kn.records);
+          hmax = well.hmax ∙ kn.hmax;
+          same = hits_length p.hits x.act ∙ kn.same;
+        }),
+      )
 
-  pub run-done : (k : ℕ) (p : Looked) → p.state.left ≤ 0 → search_for k s q fl rows recs p ≡ p
+  run-done : (k : ℕ) (p : Looked) → p.state.left ≤ 0 → search_for k s q fl rows recs p ≡ p
   unfolding search_for
   run-done zero p h = refl
   run-done (suc k) p h = rw (eq-eqb p.state.left 0 (omega arith))
+
+  pub ended : (k : ℕ) (p : Looked) → Known k p → p.state.left ≤ 0 → p ≡ search_of s q fl rows recs p₀
+  ended k p kn h = sym (run-done k p h) ∙ kn.runs

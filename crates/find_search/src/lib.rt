@@ -1,4 +1,6 @@
 // The search over the records that were filled, one comparison of a record with a glyph of the query a turn.
+#![tactic(auto)]
+
 ghost use Rattle.std.specs.Prelude.{◌≡◌, ◌<◌, length, get_or, set};
 ghost use Rattle.find_search.specs.Search.{blank, search_of, SearchReady};
 

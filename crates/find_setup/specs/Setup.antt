@@ -1,9 +1,8 @@
 -- What a finding does around its passes and its search: the state in which a pass begins, where the search begins, the answer. In
 -- the code's own steps.
-use Rattle.std.specs.Prelude.{ℕ, ◌≤◌, Bool, true, false, List, ◌≡◌, eqb, get_or}
+use Rattle.std.specs.Prelude.{ℕ, ◌≤◌, Bool, true, false, List, ◌≡◌, eqb, get_or, if◌then◌else◌}
 use Rattle.rules.specs.declared.Finding.{Finding}
 use Rattle.rules.specs.declared.Finding.TheVariants as F
-use Rattle.rules.specs.Bytes.{if◌then◌else◌}
 use Rattle.read_model.specs.declared.State.{State}
 use Rattle.read_turn.specs.Ready.{Scratch}
 use Rattle.read_setup.specs.Setup.{refused_at, again_of, Started, AreBytes}

@@ -1,4 +1,6 @@
 // What a finding does around its passes and its search: the state in which each pass begins, where the search begins, and the answer.
+#![tactic(auto)]
+
 ghost use Rattle.std.specs.Prelude.{◌≡◌, ◌≤◌, length};
 ghost use Rattle.read_turn.specs.Ready.{Scratch};
 ghost use Rattle.read_setup.specs.Setup.{Unmounted};

@@ -1,9 +1,10 @@
 -- Two passes and a search answer what the rules answer: what each of them asks, and what is answered at the end.
-use Prim.Native.Nat.{ℕ, zero, suc, ◌+◌, ◌-◌, ◌<◌, ◌≤◌}
+use Rattle.std.specs.Prelude.{if◌then◌else◌}
+use Prim.Native.Nat.{ℕ, zero, suc, ◌+◌, ◌<◌, ◌≤◌}
 use native.Mathlib.Omega.{arith}
 use native.Mathlib.Numerals.{add-one}
 use mathlib.Core.Bool.{Bool, true, false, ◌||◌}
-use mathlib.Core.List.{List, [], ◌∷◌, ◌++◌, map}
+use mathlib.Core.List.{List, [], ◌∷◌, map}
 use mathlib.Core.Logic.{◌⊎◌, inl, inr}
 use mathlib.Core.Path.{◌≡◌, refl, sym, ap, ap₂, subst, ◌∙◌}
 use lib.Dec.{ltb, eqb}
@@ -12,14 +13,13 @@ use lib.Seq.{drop-cons}
 use borrow.Author.Tests.{ne_eqb, le-ltb, ltb-false}
 use Rattle.rules.specs.declared.Record.{Record}
 use Rattle.rules.specs.declared.Entry.{Entry}
-use Rattle.rules.specs.Bytes.{if◌then◌else◌}
 use Rattle.rules.specs.Scan.{commands}
 use Rattle.rules.specs.State.{Env, start}
 use Rattle.rules.specs.Widths.{Widths, WidthList, unsound, sound, width_list}
 use Rattle.rules.specs.Record.{GlyphRow, ItemRow, Answer, refuse, answer, follow, record_of, over}
 use Rattle.rules.specs.Families.{Family, FamilyList, ill_grouped, grouped, family_list}
 use Rattle.rules.specs.Find.{Wanted, Sought, sought, Query, ill_formed, well_formed, query, Key, hits_from}
-use Rattle.rules.specs.Answers.{stream_most, is_over, read, Found, not_found, found, hits_in, find_asked, find_grouped, find_with, find, find_into, finding_of, records_found, hits_over, key_of as key_of_row}
+use Rattle.rules.specs.Answers.{stream_most, is_over, read, Found, not_found, found, hits_in, find_grouped, find_with, find, find_into, finding_of, records_found, hits_over, key_of as key_of_row}
 use Rattle.laws.proofs.Cases.{on, no as impossible, if_both, or_true, take_front}
 use Rattle.laws_scan.proofs.Names.{RowIn, AllRows, RowsOf, names_stand}
 use Rattle.laws_find.proofs.Exact.{no_sought, sought_at_lem, sought-length}

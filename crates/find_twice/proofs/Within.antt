@@ -1,4 +1,5 @@
 -- A pass never counts more records than it has room for.
+use Rattle.std.specs.Prelude.{if◌then◌else◌}
 use Prim.Native.Nat.{ℕ, zero, suc, ◌+◌, ◌-◌, ◌<◌, ◌≤◌}
 use native.Mathlib.Omega.{arith}
 use mathlib.Core.List.{List}
@@ -6,7 +7,7 @@ use mathlib.Core.Path.{◌≡◌}
 use lib.Dec.{ltb, eqb}
 use lib.ListN.{length, drop, get_or}
 use borrow.Author.Tests.{ltb-true, ltb-false}
-use Rattle.rules.specs.Bytes.{if◌then◌else◌, is, is_white, one_line}
+use Rattle.rules.specs.Bytes.{is, is_white, one_line}
 use Rattle.laws.proofs.Cases.{on, if_both, if_on}
 use Rattle.scan_command.specs.View.{command_at}
 use Rattle.read_model.specs.declared.Environment.{Environment}

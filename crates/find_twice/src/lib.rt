@@ -1,1 +1,2 @@
 // Laws, no code: two passes and a search answer what the rules answer.
+#![tactic(auto)]

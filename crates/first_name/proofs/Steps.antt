@@ -80,7 +80,7 @@ module _ (fl own : List ℕ) where
       pub of_found : (x : First) → x ≡ first_of (family_of own (families_at fl tab n)) → x ≡ first_of (family_of own (listed fl))
       of_found x h = by_list (families_at fl tab n) x (listed_is ∙ ap families_in (told_held fl y e n tab p l).list) h
 
-pub ruleset in_List = (of_long, of_wrong, of_room, of_few, of_sized, of_found, rules)
+pub ruleset in_list = (of_long, of_wrong, of_room, of_few, of_sized, of_found, rules)
 
 -- ---- in the stream
 

@@ -1,5 +1,7 @@
 // The first name for a record (request 2026-01): its family's first name, a part of the family list, or its own name, a part of the
 // stream. Nothing is copied.
+#![tactic(auto)]
+
 ghost use Rattle.std.specs.Prelude.{◌≡◌, ◌≤◌, length};
 ghost use Rattle.std.proofs.Math.Option.{none};
 ghost use Rattle.rules.specs.Families.{family_of};
@@ -12,7 +14,7 @@ use families::FamilyAnswer;
 use rules::{NamePart, Record};
 
 // The first name of a family: where it stands in the list; or there is no family.
-#[derive(Drop)]
+#[derive(Clone, Copy)]
 struct First {
     found: bool,
     place: usize,

@@ -45,7 +45,7 @@ module _ (s list : List ℕ) (w : Writing) (ws : List ℕ) where
   unfolding judge
   says m (inl f) = refused_is w f.number f.offset f.refused ∙ rw f.answered
   says m (inr g) =
-      accepted_is w (length g.rows) (length g.items) g.end.ordinal (length_of (text_of s g.on.widths)) g.clear g.stopped g.count g.number g.pages (g.decreases ∙ counted (text_of s g.on.widths))
+      accepted_is w (length g.rows) (length g.items) g.end.ordinal (length_of (text_of s g.on.widths)) g.clear g.stopped g.count g.number g.pages (g.measured ∙ counted (text_of s g.on.widths))
       ∙ rw (g.on.answered, g.on.list_is, g.said)
 
   pub judges : (r : Judging) → r ≡ judge_answer_of w → Measured s list w ws → JudgeCall s list r

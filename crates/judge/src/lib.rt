@@ -1,5 +1,7 @@
 // Judging: a stream with its width list, room aside. The rewriter's first pass alone, whose bytes nobody reads: whether a stream is
 // accepted, and then how large the rows and the buffer of the other routines have to be.
+#![tactic(auto)]
+
 ghost use Rattle.rules.specs.Calls.{JudgeCall};
 ghost use Rattle.read_turn.specs.Ready.{Scratch};
 

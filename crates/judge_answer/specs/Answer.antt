@@ -1,8 +1,7 @@
 -- What is answered where the pass that measures ended at w. In the code's own steps.
-use Rattle.std.specs.Prelude.{eqb}
+use Rattle.std.specs.Prelude.{eqb, if◌then◌else◌}
 use Rattle.rules.specs.declared.Judging.{Judging}
 use Rattle.rules.specs.declared.Judging.TheVariants as J
-use Rattle.rules.specs.Bytes.{if◌then◌else◌}
 use Rattle.respell_model.specs.declared.Writing.{Writing}
 
 abbrev pub judge_answer_of : Writing → Judging

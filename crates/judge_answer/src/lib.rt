@@ -1,4 +1,6 @@
 // What a judging answers where the rewriter's first pass ended.
+#![tactic(auto)]
+
 ghost use Rattle.std.specs.Prelude.{◌≡◌};
 ghost use Rattle.judge_answer.specs.Answer.{judge_answer_of};
 

@@ -1,16 +1,17 @@
 -- An empty family list gives the answers of the rule as it was without families.
+use Rattle.std.specs.Prelude.{if◌then◌else◌}
 use Prim.Native.Nat.{ℕ, ◌+◌}
 use mathlib.Core.Bool.{Bool, ◌&&◌, ◌||◌}
 use mathlib.Core.List.{List, [], ◌∷◌, ◌++◌, map}
 use mathlib.Core.Logic.{◌⊎◌, inl, inr}
 use mathlib.Core.Path.{◌≡◌, refl, sym, ap, ap₂, ◌∙◌}
-use Rattle.rules.specs.Bytes.{if◌then◌else◌, same}
+use Rattle.rules.specs.Bytes.{same}
 use Rattle.rules.specs.Scan.{commands}
 use Rattle.rules.specs.Widths.{lines_from, Widths, WidthList, unsound, sound, width_list}
 use Rattle.rules.specs.State.{start}
 use Rattle.rules.specs.Record.{Answer, refuse, answer, follow}
 use Rattle.rules.specs.Families.{is_in, family_of, grouped, family_lines, family_list}
-use Rattle.rules.specs.Find.{Wanted, Query, ill_formed, well_formed, query, Key, sought, glyph_test, passes, goes_on, occurs, hits_from}
+use Rattle.rules.specs.Find.{Wanted, Query, ill_formed, well_formed, query, Key, sought, glyph_test, passes, goes_on, hits_from}
 use Rattle.rules.specs.Answers.{stream_most, is_over, not_found, found, key_of, hits_in, find_asked, find_with, find, found_in, find_into}
 use Rattle.laws.proofs.Cases.{on, no}
 use Rattle.laws_find.specs.Occurs.{key_at, wanted_at, OccursAt}

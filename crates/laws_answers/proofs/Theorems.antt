@@ -1,4 +1,5 @@
 -- The proofs of the statements.
+use Rattle.std.specs.Prelude.{if◌then◌else◌}
 use Prim.Native.Nat.{ℕ, suc, ◌+◌, ◌<◌, ◌≤◌}
 use native.Mathlib.Omega.{arith}
 use mathlib.Core.Bool.{Bool, true, false, ◌||◌}
@@ -8,11 +9,10 @@ use mathlib.Core.Path.{◌≡◌, refl, sym, ap, ap₂, ◌∙◌}
 use lib.Dec.{ltb}
 use lib.ListN.{length}
 use borrow.Author.Tests.{ltb-true, le-ltb, lt-ltb, le-leb, lt-leb}
-use Rattle.rules.specs.Act.{Act, Cmd, just, word}
-use Rattle.rules.specs.Bytes.{if◌then◌else◌}
+use Rattle.rules.specs.Act.{Cmd, just, word}
 use Rattle.rules.specs.Scan.{Cmds, commands}
 use Rattle.rules.specs.Widths.{Widths, WidthList, unsound, sound, width_list}
-use Rattle.rules.specs.State.{corner, Env, start, Glyph, Item, Step, refused, went, steps}
+use Rattle.rules.specs.State.{corner, Env, start, Item, Step, refused, went, steps}
 use Rattle.rules.specs.Record.{GlyphRow, Answer, refuse, answer, follow, seen}
 use Rattle.rules.specs.House.{played, spelling, spell_all}
 use Rattle.rules.specs.Families.{Family, FamilyList, ill_grouped, grouped, family_list}
@@ -37,8 +37,8 @@ use Rattle.laws_find.proofs.Exact.{hits_rise, hits_occur, occurs_hits}
 use Rattle.laws_find.proofs.Asked.{query-shape, shape_some}
 use Rattle.laws_find.proofs.Written.{written_read, read-written, query_short, names_some}
 use Rattle.laws_scan.proofs.Fair.{commands_good}
-use Rattle.laws_scan.proofs.Names.{AllRows, RowIn, RowsOf, read_stands}
-use Rattle.laws_answers.specs.Statements.{Accepted, glyphs_in, rows_in, items_in, pages_in, end_in, glyph_paint_in, fill_paint_in, SameReading, ReadAgain, RoundTrip, FixedPoint, Exact, Exactness, Told, refused_at, listed, told, cmds_of, acts_of, house_text, OneSpelling, Answered, QueryText, Roomy, Limits, ByOutline, single, ByAnyCommand, name_in, NamesIn, NamesOf, NamesStand, Alike, Likeness}
+use Rattle.laws_scan.proofs.Names.{AllRows, RowsOf, read_stands}
+use Rattle.laws_answers.specs.Statements.{Accepted, rows_in, SameReading, ReadAgain, RoundTrip, FixedPoint, Exact, Exactness, listed, told, cmds_of, acts_of, house_text, OneSpelling, Answered, QueryText, Roomy, Limits, ByOutline, single, ByAnyCommand, NamesIn, NamesOf, NamesStand, Alike, Likeness}
 
 -- ---- an accepted stream
 

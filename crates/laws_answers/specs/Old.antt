@@ -1,8 +1,8 @@
 -- Request 2026-01: "an empty list gives the old answers". The rule for finding as it was before the request, without families, and what an
 -- empty family list gives. Proofs: `proofs/Old.antt`.
-use Rattle.std.specs.Prelude.{ℕ, ◌+◌, ◌<◌, ◌≤◌, Bool, true, false, ◌&&◌, ◌||◌, List, [], ◌∷◌, ◌++◌, map, ◌≡◌, eqb, length}
+use Rattle.std.specs.Prelude.{ℕ, ◌+◌, ◌<◌, ◌≤◌, Bool, true, false, ◌&&◌, ◌||◌, List, [], ◌∷◌, ◌++◌, map, ◌≡◌, eqb, length, if◌then◌else◌}
 use Rattle.std.proofs.Math.Option.{Option, some}
-use Rattle.rules.specs.Bytes.{if◌then◌else◌, same}
+use Rattle.rules.specs.Bytes.{same}
 use Rattle.rules.specs.Scan.{commands}
 use Rattle.rules.specs.Widths.{Widths, WidthList, unsound, sound, width_list}
 use Rattle.rules.specs.State.{start}

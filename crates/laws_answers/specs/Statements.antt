@@ -1,6 +1,6 @@
 -- The theorems of demands 2 and 3, as statements about the answer functions of the rules (`read`, `respell`, `find`, `judge`), for
 -- every list of bytes, width list, family list and query. The proofs stand in `proofs/`.
-use Rattle.std.specs.Prelude.{ℕ, suc, ◌+◌, ◌<◌, ◌≤◌, Bool, true, false, List, [], ◌∷◌, ◌++◌, map, ◌⊎◌, ◌≡◌, length, take, drop}
+use Rattle.std.specs.Prelude.{ℕ, suc, ◌+◌, ◌<◌, ◌≤◌, true, false, List, [], ◌∷◌, ◌++◌, map, ◌⊎◌, ◌≡◌, length, take, drop}
 use Rattle.rules.specs.declared.Judging.TheVariants as J
 use Rattle.rules.specs.Act.{Act, glyph, raw, Cmd, just, word, pair}
 use Rattle.rules.specs.House.{played, spelling, spell_all}
@@ -9,9 +9,9 @@ use Rattle.rules.specs.Widths.{Widths, sound, width_list}
 use Rattle.rules.specs.State.{Spot, corner, Paint, no_paint, Env, Glyph, Item, start}
 use Rattle.rules.specs.Record.{GlyphRow, ItemRow, Answer, refuse, answer}
 use Rattle.rules.specs.Families.{Family, grouped, family_list}
-use Rattle.rules.specs.Find.{Wanted, Key, Query, well_formed, query, sought, hits_from}
-use Rattle.rules.specs.Answers.{stream_most, is_over, read_with, read, read_into, is_accepted, Spelling, not_spelled, spelled, respell, respell_into, Found, not_found, found, key_of, find_with, find, find_into, judge}
-use Rattle.laws_read.specs.Outline.{Sign, signs_of, outline}
+use Rattle.rules.specs.Find.{Wanted, Key, well_formed, query, sought, hits_from}
+use Rattle.rules.specs.Answers.{stream_most, is_over, read_with, read, read_into, is_accepted, not_spelled, spelled, respell, respell_into, Found, not_found, found, key_of, find_with, find, find_into, judge}
+use Rattle.laws_read.specs.Outline.{signs_of, outline}
 use Rattle.laws_read.specs.Kept.{unmotioned, all_kept}
 use Rattle.laws_read.specs.Spots.{spots_of}
 use Rattle.laws_find.specs.Occurs.{key_at, QueryShape, OccursAt, Elem, Rising}

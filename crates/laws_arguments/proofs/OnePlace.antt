@@ -1,4 +1,5 @@
 -- What is said of the argument at fault holds at one place alone: letters, spacers, integers and strings end where the rules' tests say.
+use Rattle.std.specs.Prelude.{if◌then◌else◌}
 use Prim.Native.Nat.{ℕ, suc, ◌+◌}
 use native.Mathlib.Omega.{arith}
 use mathlib.Core.Bool.{true, false}
@@ -8,7 +9,7 @@ use mathlib.Core.Path.{◌≡◌, refl, sym, ap, ap₂, subst, ◌∙◌}
 use lib.Dec.{eqb}
 use lib.ListN.{length, drop, length-append}
 use borrow.Author.Tests.{ne_eqb}
-use Rattle.rules.specs.Bytes.{if◌then◌else◌, is, is_space, is_not_white, spacer, unspaced, string, Num, Int, no_int, int, integer}
+use Rattle.rules.specs.Bytes.{is, is_space, is_not_white, spacer, unspaced, string, Num, Int, no_int, int, integer}
 use Rattle.rules.specs.Letters.{Draft, fault, draft}
 use Rattle.laws.proofs.Cases.{if_both, Stops, span_all, drop_front}
 use Rattle.laws_scan.specs.Texts.{Spacer, NoWhite, WhiteOrEnd, Digits, Written}

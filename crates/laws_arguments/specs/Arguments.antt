@@ -1,8 +1,8 @@
 -- Document 02, request 2026-12 ("Point at the argument"): how many arguments each command has and their limits, said a second time, and
 -- where each of them stands, said by the bytes themselves. What a command is and whether it is complete, limits aside, is the rules' `letter`.
 -- Proofs: `proofs/Arguments.antt`.
-use Rattle.std.specs.Prelude.{ℕ, ◌+◌, ◌≤◌, List, [], ◌∷◌, ◌++◌, map, ◌≡◌, length, take, drop}
-use Rattle.rules.specs.Bytes.{if◌then◌else◌, is, Num, moved}
+use Rattle.std.specs.Prelude.{ℕ, ◌+◌, ◌≤◌, List, [], ◌∷◌, ◌++◌, map, ◌≡◌, length, take, drop, if◌then◌else◌}
+use Rattle.rules.specs.Bytes.{is, Num, moved}
 use Rattle.rules.specs.Act.{Scheme, cmy, default, gray, cmyk, rgb, Shape, line, arc, circle, solid_circle, ellipse, solid_ellipse, polygon, solid_polygon, spline, thickness, gray_fill, colour_fill, Plain, pause, trailer, height, slant, underline, Act, glyph, index, to, by, page, font, size, colour, break, space, draw, device, resolution, init, file, mount, plain, raw, stop, Cmd, just, word, pair}
 use Rattle.rules.specs.Letters.{draft}
 use Rattle.rules.specs.Scan.{bad, letter, command}

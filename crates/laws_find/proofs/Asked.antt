@@ -1,15 +1,16 @@
 -- The glyphs of a well-formed query: at least one, and what each asks of the gap mark.
-use Prim.Native.Nat.{ℕ, suc, ◌+◌, ◌<◌}
+use Rattle.std.specs.Prelude.{if◌then◌else◌}
+use Prim.Native.Nat.{ℕ, ◌+◌, ◌<◌}
 use native.Mathlib.Omega.{arith}
-use mathlib.Core.Bool.{Bool, true, false, ◌&&◌}
+use mathlib.Core.Bool.{Bool, ◌&&◌}
 use mathlib.Core.List.{List, [], ◌∷◌}
 use mathlib.Core.Option.{Option, none, some}
 use mathlib.Core.Path.{◌≡◌, refl}
 use lib.ListN.{length}
-use Rattle.rules.specs.Bytes.{if◌then◌else◌, bytes, same}
+use Rattle.rules.specs.Bytes.{bytes, same}
 use Rattle.rules.specs.Widths.{Line, lines_from, behind}
-use Rattle.rules.specs.Find.{Gap, Wanted, Expected, first_glyph, gap_glyph, either, Query, ill_formed, well_formed, query_ends, with_wanted, gap_of, may_part, may_ask, query_line, query_lines, query}
-use Rattle.laws.proofs.Cases.{if_both, on}
+use Rattle.rules.specs.Find.{Wanted, Expected, first_glyph, gap_glyph, either, Query, ill_formed, well_formed, query_ends, with_wanted, gap_of, may_part, may_ask, query_line, query_lines, query}
+use Rattle.laws.proofs.Cases.{if_both}
 use Rattle.laws_find.specs.Occurs.{AllAsked, QueryShape}
 
 -- what is known of the glyphs still to come

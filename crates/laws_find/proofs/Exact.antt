@@ -1,20 +1,20 @@
 -- The list of hits is rising and has exactly the record numbers at which the query occurs.
-use Prim.Native.Nat.{ℕ, zero, suc, ◌+◌, ◌-◌, ◌<◌, ◌≤◌}
+use Rattle.std.specs.Prelude.{if◌then◌else◌}
+use Prim.Native.Nat.{ℕ, zero, suc, ◌+◌, ◌<◌, ◌≤◌}
 use native.Mathlib.Omega.{arith}
 use native.Mathlib.Nat.{add-zero, zero-add, le_of_suc-le-suc}
-use mathlib.Core.Bool.{Bool, true, false, ◌&&◌}
+use mathlib.Core.Bool.{true}
 use mathlib.Core.List.{List, [], ◌∷◌, ◌++◌, map}
 use mathlib.Core.Logic.{◌⊎◌, inl, inr}
-use mathlib.Core.Path.{◌≡◌, refl, sym, ap, ap₂, ◌∙◌}
+use mathlib.Core.Path.{◌≡◌, refl, sym, ap, ◌∙◌}
 use lib.Dec.{eqb}
 use lib.ListN.{length, drop, get_or, length-drop}
 use lib.Seq.{get_or-drop}
 use borrow.Author.Tests.{eqb-true, eq-eqb, ne_eqb}
-use Rattle.rules.specs.Bytes.{if◌then◌else◌}
 use Rattle.rules.specs.Families.{Family}
 use Rattle.rules.specs.Find.{Gap, any_gap, no_gap, some_gap, Wanted, Key, Sought, sought, same_name, gap_test, glyph_test, passes, goes_on, occurs, hits_from}
 use Rattle.laws.proofs.Cases.{on, no, and_left, and_right, not_zero}
-use Rattle.laws_find.specs.Occurs.{key_at, wanted_at, no_wanted, no_key, GapAsAsked, OccursAt, Elem, Above, Rising}
+use Rattle.laws_find.specs.Occurs.{key_at, wanted_at, no_key, GapAsAsked, OccursAt, Elem, Above, Rising}
 use Rattle.laws_find.proofs.Families.{Parted, name_match, match_name}
 
 -- ---- the test of one glyph

@@ -1,18 +1,18 @@
 -- Families: in a sound list no name stands twice, so that the names that match a name are those of its family.
 use Prim.Native.Nat.{ℕ}
-use mathlib.Core.Bool.{Bool, true, false, not, ◌&&◌, ◌||◌}
+use mathlib.Core.Bool.{Bool, true, false, ◌&&◌, ◌||◌}
 use mathlib.Core.List.{List, [], ◌∷◌, ◌++◌}
 use mathlib.Core.Logic.{◌⊎◌, inl, inr}
 use mathlib.Core.Option.{Option, none, some}
 use mathlib.Core.Path.{◌≡◌, refl, sym, ap, ◌∙◌}
 use lib.Dec.{ltb}
 use lib.ListN.{length}
-use Rattle.rules.specs.Bytes.{if◌then◌else◌, bytes, same}
+use Rattle.rules.specs.Bytes.{bytes, same}
 use Rattle.rules.specs.Widths.{Line, lines_from, behind, is_list_name}
-use Rattle.rules.specs.Families.{Family, names_in, is_in, family_of, names_of, is_none, is_new_name, is_whole, families_most, others_most, name_line, same_line, family_line, family_read, FamilyList, ill_grouped, grouped, families_end, families_on, family_lines, family_list}
-use Rattle.rules.specs.Find.{Wanted, Sought, sought, same_name}
+use Rattle.rules.specs.Families.{Family, names_in, is_in, family_of, names_of, is_none, is_new_name, is_whole, families_most, others_most, name_line, same_line, family_line, family_read, FamilyList, ill_grouped, grouped, families_on, family_lines, family_list}
+use Rattle.rules.specs.Find.{Wanted, sought, same_name}
 use Rattle.laws.proofs.Cases.{on, no, and_left, and_right, if_on}
-use Rattle.laws.proofs.Same.{same_eq, same_self, eq_same}
+use Rattle.laws.proofs.Same.{same_eq, eq_same}
 use Rattle.laws_find.specs.Occurs.{Among, Has, InOne, Match}
 use Rattle.laws_find.specs.Written.{GoodName}
 use Rattle.laws_find.proofs.Written.{listed_good}

@@ -12,7 +12,7 @@ use lib.ListN.{length, length-append}
 use borrow.Author.Tests.{eqb-true, eq-eqb, ltb-true, lt-ltb, leb-true, le-leb}
 use Rattle.rules.specs.Bytes.{bytes, is, is_space, is_white, is_not_white, is_clear, span, same}
 use Rattle.rules.specs.Widths.{Line, with_byte, lines_from, behind, is_list_name}
-use Rattle.rules.specs.Find.{Gap, any_gap, no_gap, some_gap, Wanted, Key, Expected, first_glyph, gap_glyph, either, Query, ill_formed, well_formed, query_ends, with_wanted, gap_of, may_ask, query_line, query_lines, query}
+use Rattle.rules.specs.Find.{Gap, any_gap, no_gap, some_gap, Wanted, Expected, first_glyph, gap_glyph, either, Query, ill_formed, well_formed, query_ends, with_wanted, gap_of, may_ask, query_line, query_lines, query}
 use Rattle.laws.proofs.Cases.{on, no, and_left, and_right}
 use Rattle.laws.proofs.Same.{same_eq}
 use Rattle.laws.proofs.Clear.{clear_none, none_clear}

@@ -8,7 +8,7 @@ use mathlib.Core.Path.{◌≡◌, refl, ap, subst}
 use lib.Dec.{ltb, eqb}
 use lib.ListN.{length, length-append}
 use borrow.Author.Tests.{le-leb, ne_eqb, ltb-true, ltb-false}
-use Rattle.rules.specs.Bytes.{is, is_digit, span, digits, value, Num, Int, no_int, int, signed, integer, most, origin, moved}
+use Rattle.rules.specs.Bytes.{is, is_digit, span, digits, value, Num, Int, no_int, int, signed, integer, origin, moved}
 use Rattle.rules.specs.House.{digits_of, decimal, signed_decimal}
 use Rattle.laws.proofs.Cases.{on, if_both, if_on, not_zero}
 use Rattle.laws.proofs.Limits.{within_bounds}

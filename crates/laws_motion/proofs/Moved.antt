@@ -1,4 +1,5 @@
 -- Motions over the integers.
+use Rattle.std.specs.Prelude.{if◌then◌else◌}
 use Prim.Native.Nat.{ℕ, zero, suc, ◌+◌, ◌*◌, ◌-◌, ◌<◌, ◌≤◌}
 use native.Mathlib.Omega.{arith}
 use native.Mathlib.Nat.{add-zero}
@@ -11,7 +12,7 @@ use lib.Dec.{leb, ltb}
 use lib.IntN.{ℤ, pos, negsuc, nat_abs, ◌+ℤ◌}
 use lib.ListN.{length}
 use borrow.Author.Tests.{leb-true, leb-false, le-leb, lt-ltb, le-ltb, ltb-true, ltb-false}
-use Rattle.rules.specs.Bytes.{if◌then◌else◌, origin, most, moved, near}
+use Rattle.rules.specs.Bytes.{origin, most, moved, near}
 use Rattle.rules.specs.Act.{Axis, across, down, Shape, line, arc, circle, solid_circle, ellipse, solid_ellipse, polygon, solid_polygon, spline, thickness, gray_fill, colour_fill, Act, glyph, index, to, by, page, font, size, colour, break, space, draw, device, resolution, init, file, mount, plain, raw, stop}
 use Rattle.rules.specs.Drawing.{Way, pairwise, way_of}
 use Rattle.rules.specs.State.{Env, Glyph, Item, fits, plus, plus_all, fits_all, may_go, mounted_at, is_mounted, set_gap, with_font, recorded, indexed, Step, refused, went, due, effect, act}

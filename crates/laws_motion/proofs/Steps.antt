@@ -1,11 +1,11 @@
 -- What holds behind an act, where it was not refused.
+use Rattle.std.specs.Prelude.{if◌then◌else◌}
 use Prim.Native.Nat.{ℕ}
 use mathlib.Core.Bool.{Bool, true, false}
 use mathlib.Core.List.{List, ◌++◌}
 use mathlib.Core.Option.{Option, none, some}
 use mathlib.Core.Path.{◌≡◌, refl}
 use lib.Dec.{ltb}
-use Rattle.rules.specs.Bytes.{if◌then◌else◌}
 use Rattle.rules.specs.Act.{Act}
 use Rattle.rules.specs.State.{Env, Glyph, Item, with_font, Step, refused, went, before, and_then, due, effect, act}
 

@@ -162,7 +162,7 @@ module _ (d : Env) (b m : ℕ) (ys : List Act) (zs : List ℤ) (r : Ready d) (f 
       let e : shown (plus d.spot.h m) ≡ shown d.spot.h +ℤ shown m = by_place d.spot.h m k in
       let l : InLimit (shown d.spot.h +ℤ shown m) = by_in d.spot.h m k in (
         ⊎_elim (λ o. absurd (clash (shown d.spot.h +ℤ shown m) l o)) (λ o. run_fits d b m ys r k ∙ rw (f.0 (rw e o))),
-        λ q. inr (rw e at (f.1 (before_ten _ _ _ (before_ten _ _ _ (sym (run_fits d b m ys r k) ∙ q))))),
+        λ q. inr (rw e at (f.1 (before_ten [] [] (run (grown d m) ys) (before_ten (glyph_of d r.0 (b ∷ []) 0 ∷ []) [] (before [] [] (run (grown d m) ys)) (sym (run_fits d b m ys r k) ∙ q))))),
       )
 
   -- else it is refused

@@ -2,9 +2,9 @@
 -- command has, each as the integer that its text says, so that nobody has to believe the numbers that are moved up. `h_behind` and
 -- `v_behind` are 01's tables again, as 02 has changed them, apart from those of the rules (`way_of`, `plus`, `plus_all`). Proofs: `Moved` and
 -- `Worded`. That what they ask for holds in every run: `Runs`.
-use Rattle.std.specs.Prelude.{ℕ, ◌+◌, ◌*◌, ◌-◌, ◌<◌, ◌≤◌, true, List, [], ◌∷◌, map, ◌⊎◌, ◌≡◌, ℤ, pos, neg_ℤ, nat_abs, ◌+ℤ◌, length, get_or}
+use Rattle.std.specs.Prelude.{ℕ, ◌+◌, ◌*◌, ◌-◌, ◌<◌, ◌≤◌, true, List, [], ◌∷◌, map, ◌⊎◌, ◌≡◌, ℤ, pos, neg_ℤ, nat_abs, ◌+ℤ◌, length, get_or, if◌then◌else◌}
 use Rattle.std.proofs.Math.Option.{some}
-use Rattle.rules.specs.Bytes.{if◌then◌else◌, origin, Num, moved, near}
+use Rattle.rules.specs.Bytes.{origin, Num, moved, near}
 use Rattle.rules.specs.Act.{across, down, Shape, line, arc, circle, solid_circle, ellipse, solid_ellipse, polygon, solid_polygon, spline, thickness, gray_fill, colour_fill, Act, glyph, index, to, by, page, font, size, colour, break, space, draw, device, resolution, init, file, mount, plain, raw, stop, just, word, pair}
 use Rattle.rules.specs.Widths.{Width, Font, Widths, advance}
 use Rattle.rules.specs.State.{Env, Glyph, Item, mounted_at, due, refused, went, act, these, acts, perform}

@@ -1,7 +1,7 @@
 -- "`H` and then `V` are written, each only where the place differs from that a reader of the spelling so far has": what that says of a
 -- list of acts. No definition of the house spelling stands in it.
-use Rattle.std.specs.Prelude.{ℕ, Bool, true, false, List, [], ◌∷◌, ◌≡◌, ltb}
-use Rattle.rules.specs.Bytes.{if◌then◌else◌, origin}
+use Rattle.std.specs.Prelude.{ℕ, Bool, true, false, List, [], ◌∷◌, ◌≡◌, ltb, if◌then◌else◌}
+use Rattle.rules.specs.Bytes.{origin}
 use Rattle.rules.specs.Act.{Axis, across, down, Act, glyph, index, to, by, page, font, size, colour, break, space, draw, device, resolution, init, file, mount, plain, raw, stop}
 use Rattle.rules.specs.State.{get, Env, Step, refused, went, act}
 

@@ -1,4 +1,5 @@
 -- Two readers of the same acts, at two places that differ in x: what they read differs, where anything tells.
+use Rattle.std.specs.Prelude.{if◌then◌else◌}
 use Prim.Native.Nat.{ℕ}
 use mathlib.Core.Bool.{Bool, true, false}
 use mathlib.Core.List.{List, [], ◌∷◌, ◌++◌, map, map-append}
@@ -6,7 +7,7 @@ use mathlib.Core.Option.{Option, none, some}
 use mathlib.Core.Path.{◌≡◌, refl, sym, ap, subst, ◌∙◌}
 use lib.Dec.{ltb}
 use lib.ListN.{length, drop}
-use Rattle.rules.specs.Bytes.{if◌then◌else◌, origin}
+use Rattle.rules.specs.Bytes.{origin}
 use Rattle.rules.specs.Drawing.{way_of}
 use Rattle.rules.specs.Act.{Shape, Axis, across, down, Act, glyph, index, to, by, page, font, size, colour, break, space, draw, device, resolution, init, file, mount, plain, raw, stop}
 use Rattle.rules.specs.State.{Spot, corner, get, put, item, item_at, with_font, recorded, indexed, may_go, spot_after, filled, Env, set_spot, set_fill_paint, set_phase, Glyph, Item, Step, refused, went, before, and_then, on_page, in_body, due, effect, act, run, stopped}

@@ -15,7 +15,7 @@ use Rattle.rules.specs.Bytes.{is, is_white, span, one_line}
 use Rattle.rules.specs.Act.{Cmd}
 use Rattle.rules.specs.Scan.{letter, got, bad, Scan, command, commands}
 use Rattle.rules.specs.Widths.{lines_from, Widths, WidthList, unsound, sound, width_list}
-use Rattle.rules.specs.State.{Env, start, Glyph, Item, refused}
+use Rattle.rules.specs.State.{Env, start, Glyph, Item}
 use Rattle.rules.specs.Record.{Answer, refuse, after_rows, glyph_rows, item_rows, follow}
 use Rattle.rules.specs.Families.{Family, FamilyList, ill_grouped, grouped, family_list}
 use Rattle.rules.specs.Find.{Wanted, sought, query_lines, Query, ill_formed, well_formed, query}

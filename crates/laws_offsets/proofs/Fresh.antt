@@ -1,4 +1,5 @@
 -- Among fewer than 4,096 names some name of 12 letters is missing: a family that wants a `same` line can have one.
+use Rattle.std.specs.Prelude.{if◌then◌else◌}
 use Prim.Native.Nat.{ℕ, zero, suc, ◌+◌, ◌<◌, ◌≤◌}
 use native.Mathlib.Omega.{arith}
 use mathlib.Core.List.{List, [], ◌∷◌}
@@ -7,7 +8,6 @@ use mathlib.Core.Path.{◌≡◌, refl, sym, ap}
 use borrow.Author.Tests.{eqb-true, eq-eqb, ltb-true, ltb-false}
 use lib.Dec.{ltb, eqb}
 use lib.ListN.{length}
-use Rattle.rules.specs.Bytes.{if◌then◌else◌}
 use Rattle.laws.specs.Barred.{Barred, NoBarred}
 use Rattle.laws.proofs.Cases.{on}
 use Rattle.laws_find.specs.Occurs.{Among}

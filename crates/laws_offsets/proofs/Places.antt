@@ -21,9 +21,9 @@ use Rattle.rules.specs.Answers.{stream_most, is_over, read_with, read}
 use Rattle.laws.proofs.Cases.{on, no, if_both, if_on}
 use Rattle.laws_scan.proofs.Bounds.{span_le, command-within, glyphs_in}
 use Rattle.laws_scan.proofs.Walk.{from, from_white, from_comment, from_got}
-use Rattle.laws_scan.proofs.Names.{cat, Cats, step_cats}
+use Rattle.laws_scan.proofs.Names.{cat, step_cats}
 use Rattle.laws_offsets.specs.Stream.{byte_at, behind_at, command_at, FirstByte, ReadTo, from_start, past_white, past_comment, past_command}
-use Rattle.laws_offsets.specs.Places.{Performed, EntryAt, EntriesFrom, name_bytes, RecordAt, EachRecord, Placed, Places}
+use Rattle.laws_offsets.specs.Places.{Performed, EntriesFrom, name_bytes, RecordAt, EachRecord, Placed, Places}
 use Rattle.laws_offsets.proofs.Stream.{between, byte_here}
 use Rattle.laws_offsets.proofs.Exactly.{inside_of, got_inside, got_no, white-bad, hash_bad}
 

@@ -1,4 +1,5 @@
 -- A refusal of a stream points at the first byte of the command at fault, at one of its arguments, or at the stream's end.
+use Rattle.std.specs.Prelude.{if◌then◌else◌}
 use Prim.Native.Nat.{ℕ, zero, suc, ◌+◌, ◌-◌, ◌<◌, ◌≤◌}
 use native.Mathlib.Omega.{arith}
 use native.Mathlib.Nat.{add-zero}
@@ -10,7 +11,7 @@ use borrow.Author.Tests.{eqb-true, eqb-false}
 use lib.Dec.{eqb}
 use lib.ListN.{length, drop, get_or, length-drop}
 use lib.Seq.{drop-drop, get_or-drop}
-use Rattle.rules.specs.Bytes.{if◌then◌else◌, is, is_not_newline, is_white, one_line}
+use Rattle.rules.specs.Bytes.{is, is_not_newline, is_white, one_line}
 use Rattle.rules.specs.Act.{Cmd}
 use Rattle.rules.specs.Scan.{got, bad, Scan, command, Cmds, one_command, commands}
 use Rattle.rules.specs.Widths.{Widths}

@@ -5,7 +5,7 @@ use mathlib.Core.List.{List, [], ◌∷◌, ◌++◌, append-nil}
 use mathlib.Core.Logic.{◌⊎◌, inl, inr}
 use mathlib.Core.Path.{◌≡◌, refl, sym, ap, ◌∙◌}
 use lib.ListN.{length}
-use Rattle.rules.specs.Bytes.{bytes, is, span, one_line}
+use Rattle.rules.specs.Bytes.{bytes, span, one_line}
 use Rattle.rules.specs.Widths.{lines_from, behind, Widths, Due, unit_due, block_due, width_due, LineRead, wrong_line, right_line, line_says, WidthList, unsound, sound, list_ends, line_on, lines_say, width_list}
 use Rattle.laws.proofs.Cases.{no, take_front}
 use Rattle.laws_find.proofs.Written.{OneLine, line_front}

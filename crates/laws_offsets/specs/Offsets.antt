@@ -1,8 +1,7 @@
 -- Document 01, "Refusal numbers and their order", with 14 by 2026-01 and 16 by 2026-06: which numbers each routine refuses with, for which
 -- reason, where each of them points, and which comes first. The proofs stand in `proofs/`.
-use Rattle.std.specs.Prelude.{ℕ, ◌<◌, ◌≤◌, List, [], ◌⊎◌, ◌≡◌, eqb, length}
+use Rattle.std.specs.Prelude.{ℕ, ◌<◌, ◌≤◌, List, [], ◌⊎◌, ◌≡◌, eqb, length, if◌then◌else◌}
 use Rattle.rules.specs.declared.Judging.TheVariants as J
-use Rattle.rules.specs.Bytes.{if◌then◌else◌}
 use Rattle.rules.specs.Widths.{Widths, unsound, sound, width_list}
 use Rattle.rules.specs.Record.{refuse}
 use Rattle.rules.specs.Families.{Family, ill_grouped, grouped, family_list}

@@ -1,4 +1,5 @@
 -- Printed numbers are read back: each is read as its sign and its magnitude, and these come to the number again.
+use Rattle.std.specs.Prelude.{if◌then◌else◌}
 use Prim.Native.Nat.{ℕ, zero, suc, ◌+◌, ◌*◌, ◌-◌, ◌/◌, ◌%◌, ◌^◌, ◌≤◌, ◌<◌}
 use native.Mathlib.Omega.{arith}
 use native.Mathlib.Nat.{zero-add}
@@ -8,7 +9,7 @@ use mathlib.Core.Path.{◌≡◌, refl, ap}
 use lib.Dec.{ltb, eqb, lit<}
 use lib.ListN.{length, length-append}
 use borrow.Author.Tests.{ne_eqb, eqb-true, ltb-true, ltb-false}
-use Rattle.rules.specs.Bytes.{if◌then◌else◌, is, is_space, is_digit, value, Num, int, signed, integer, is_present, most, origin, moved, near}
+use Rattle.rules.specs.Bytes.{is, is_space, is_digit, value, Num, int, signed, integer, is_present, most, origin, moved, near}
 use Rattle.rules.specs.House.{digits_of, decimal, signed_decimal}
 use Rattle.laws.proofs.Cases.{on, no, All, Stops, All·append, span_all}
 use Rattle.laws.proofs.Limits.{within_bounds, near_bounds, digit}

@@ -1,10 +1,10 @@
 -- Reading a stream is reading its commands, places aside.
+use Rattle.std.specs.Prelude.{if◌then◌else◌}
 use Prim.Native.Nat.{ℕ, ◌+◌}
 use mathlib.Core.Bool.{Bool, true, false}
-use mathlib.Core.List.{List, [], ◌∷◌, ◌++◌, map, map-append}
+use mathlib.Core.List.{List, [], ◌∷◌, map, map-append}
 use mathlib.Core.Path.{◌≡◌, refl, sym, ap, ap₂, ◌∙◌}
 use lib.ListN.{length}
-use Rattle.rules.specs.Bytes.{if◌then◌else◌}
 use Rattle.rules.specs.Scan.{Cmds, done, wrong, next, bare}
 use Rattle.rules.specs.Widths.{Widths}
 use Rattle.rules.specs.State.{Env, start, Glyph, Item, Step, refused, went, before, and_then, acts, perform, steps, stopped}

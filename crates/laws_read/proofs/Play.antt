@@ -1,11 +1,11 @@
 -- From acts to lists of commands: the round trip of commands.
-use mathlib.Core.Bool.{Bool, true, false}
+use mathlib.Core.Bool.{true}
 use mathlib.Core.List.{List, [], ◌∷◌, ◌++◌, map}
-use mathlib.Core.Path.{◌≡◌, refl, sym, ap, ◌∙◌}
-use Rattle.rules.specs.Act.{Act, Cmd, just, word, pair}
+use mathlib.Core.Path.{◌≡◌, refl, ap, ◌∙◌}
+use Rattle.rules.specs.Act.{Act, Cmd, just}
 use Rattle.rules.specs.Widths.{Widths}
-use Rattle.rules.specs.State.{Spot, corner, Env, start, Glyph, Item, Step, refused, went, before, and_then, act, run, Acts, no_acts, these, acts, perform, steps}
-use Rattle.rules.specs.House.{onward, house, play_on, played, spelling}
+use Rattle.rules.specs.State.{corner, Env, start, Step, refused, went, before, and_then, act, run, Acts, no_acts, these, acts, perform, steps}
+use Rattle.rules.specs.House.{onward, play_on, played, spelling}
 use Rattle.laws.proofs.Cases.{no}
 use Rattle.laws_read.proofs.Runs.{well, run-append, before_nil, and_then-and_then, well_before}
 use Rattle.laws_read.proofs.Tied.{trip, fixed}

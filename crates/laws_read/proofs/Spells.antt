@@ -1,22 +1,23 @@
 -- The acts of the house spelling of good commands are good: each is scanned as it is written.
+use Rattle.std.specs.Prelude.{if◌then◌else◌}
 use Prim.Native.Nat.{ℕ, ◌+◌, ◌*◌, ◌-◌, ◌≤◌, ◌<◌}
 use native.Mathlib.Omega.{arith}
-use mathlib.Core.Bool.{Bool, true, false, ◌&&◌}
+use mathlib.Core.Bool.{Bool, true, false}
 use mathlib.Core.List.{List, [], ◌∷◌, ◌++◌}
 use mathlib.Core.Option.{Option, none, some}
 use mathlib.Core.Path.{◌≡◌, refl}
-use lib.Dec.{leb, ltb, eqb}
+use lib.Dec.{ltb, eqb}
 use borrow.Author.Tests.{le-leb, ltb-true}
-use Rattle.rules.specs.Bytes.{if◌then◌else◌, is_not_white, is_clear, origin, most, near}
+use Rattle.rules.specs.Bytes.{is_not_white, is_clear, origin, most, near}
 use Rattle.rules.specs.Act.{Axis, across, down, Act, glyph, index, to, by, page, font, size, colour, break, space, draw, device, resolution, init, file, mount, plain, raw, stop, Cmd, just, word, pair}
 use Rattle.rules.specs.Drawing.{Way, way_of}
-use Rattle.rules.specs.Scan.{limits, Cmds, done, wrong, next, bare}
+use Rattle.rules.specs.Scan.{Cmds, done, wrong, next, bare}
 use Rattle.rules.specs.Widths.{Widths, Font, width_of}
-use Rattle.rules.specs.State.{Spot, corner, get, put, fits_all, plus_all, may_go, spot_after, filled, fits, plus, with_font, recorded, indexed, mounted_at, is_mounted, Env, start, set_spot, set_gap, set_font, set_fill_paint, Glyph, Item, item_at, Step, refused, went, before, and_then, on_page, due, effect, act, run, Acts, no_acts, these, perform, ready, byte_acts, word_acts, word_in, acts}
+use Rattle.rules.specs.State.{Spot, get, put, fits_all, plus_all, may_go, spot_after, filled, fits, plus, with_font, recorded, indexed, mounted_at, is_mounted, Env, set_spot, set_font, set_fill_paint, Glyph, Item, item_at, Step, refused, went, before, and_then, on_page, due, effect, act, run, Acts, no_acts, these, perform, ready, byte_acts, word_acts, word_in, acts}
 use Rattle.rules.specs.House.{Manner, anchored, floating, turning, moving, manner, moves, kept, pen, onward, house, play_on, played}
 use Rattle.laws.proofs.Cases.{All, on, and_left, and_right}
 use Rattle.laws.proofs.Clear.{clear_one, clear_rest}
-use Rattle.laws.proofs.Good.{all_true, Name, Shaped, Good, AllActs, AllGood, GoodCmd, AllCmds}
+use Rattle.laws.proofs.Good.{Good, AllActs, AllGood, GoodCmd, AllCmds}
 
 -- ---- every place is within the limit
 

@@ -10,7 +10,7 @@ use lib.Dec.{ltb}
 use lib.ListN.{length, take, drop, length-take, length-drop}
 use lib.Seq.{drop-drop}
 use Rattle.rules.specs.Bytes.{is, is_white, one_line, origin}
-use Rattle.rules.specs.Act.{across, Act, glyph, index, to, by, page, font, size, colour, break, space, draw, device, resolution, init, file, mount, plain, raw, stop, Cmd, just, word, pair}
+use Rattle.rules.specs.Act.{Act, glyph, index, to, by, page, font, size, colour, break, space, draw, device, resolution, init, file, mount, plain, raw, stop, Cmd, just, word, pair}
 use Rattle.rules.specs.Drawing.{way_of}
 use Rattle.rules.specs.Scan.{command, Scan, got, bad, Cmds, done, wrong, next, one_command, commands}
 use Rattle.rules.specs.Widths.{Widths, WidthList, unsound, sound, width_list, Font, width_of}

@@ -1,5 +1,7 @@
 // The one way to a name (document 01, "What a record holds": "name (its place and length in the stream)"): a place and a length give the
 // caller's own bytes, a view and no copy, that are compared or written.
+#![tactic(auto)]
+
 ghost use Rattle.std.specs.Prelude.{◌≡◌, ◌≤◌, min};
 ghost use Rattle.name.specs.Part.{part_of};
 

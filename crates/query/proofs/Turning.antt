@@ -1,4 +1,5 @@
 -- One line of the query further: what is still to come, put behind the glyphs read so far, stays the whole.
+use Rattle.std.specs.Prelude.{if◌then◌else◌}
 use Prim.Native.Nat.{ℕ, zero, suc, ◌+◌, ◌-◌, ◌≤◌, ◌<◌}
 use native.Mathlib.Omega.{arith}
 use mathlib.Core.Bool.{Bool, true, false, ◌&&◌}
@@ -12,7 +13,7 @@ use borrow.Author.Rules.{rules}
 use borrow.Author.Tests.{lt-ltb, le-ltb, ltb-true, ltb-false, ne_eqb}
 use mir.Syntax.{w64}
 use mir.Val.{Fits}
-use Rattle.rules.specs.Bytes.{if◌then◌else◌, bytes, same, is_not_newline}
+use Rattle.rules.specs.Bytes.{bytes, same, is_not_newline}
 use Rattle.rules.specs.Widths.{lines_from, behind}
 use Rattle.rules.specs.Find.{Expected, first_glyph, gap_glyph, either, Wanted, Query, ill_formed, well_formed, with_wanted, gap_of, may_part, may_ask, query_ends, query_line, query_lines, query}
 use Rattle.laws_find.specs.Occurs.{no_wanted, wanted_at}

@@ -1,4 +1,6 @@
 // The query, judged, and its glyph lines by number (document 01, "Finding").
+#![tactic(auto)]
+
 ghost use Rattle.std.specs.Prelude.{◌≡◌, ◌+◌, ◌-◌, ◌≤◌, ◌<◌, length, set};
 ghost use Rattle.rules.specs.Find.{query};
 ghost use Rattle.query.specs.Asked.{query_of, LinesOf};
@@ -7,7 +9,7 @@ ghost use Rattle.query.specs.Turns.{expected_of, end_of, LineRoom, Going, LineTu
 use query_line::Kind;
 
 // The offset of refusal 12, or how many glyphs are asked for.
-#[derive(Drop)]
+#[derive(Clone, Copy)]
 pub enum QueryAnswer {
     IllFormed { offset: usize },
     WellFormed { glyphs: usize },
@@ -15,7 +17,7 @@ pub enum QueryAnswer {
 
 // Between two lines: the next line's place; what a glyph line there asks of the gap mark (0 nothing, it is the first; 1 that it is
 // not set; 2 that it is, a gap line was read); that gap line's place; and how many glyph lines were read.
-#[derive(Drop)]
+#[derive(Clone, Copy)]
 struct QueryState {
     at: usize,
     due: u32,
@@ -24,7 +26,7 @@ struct QueryState {
 }
 
 // The state behind the line, or the line is wrong.
-#[derive(Drop)]
+#[derive(Clone, Copy)]
 enum Flow {
     On(QueryState),
     Stop,

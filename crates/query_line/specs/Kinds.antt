@@ -1,7 +1,7 @@
 -- What one line of the query is, as the code tells.
-use Rattle.std.specs.Prelude.{ℕ, ◌&&◌, List, eqb}
+use Rattle.std.specs.Prelude.{ℕ, ◌&&◌, List, eqb, if◌then◌else◌}
 use Rattle.std.proofs.Math.Option.{Option, none, some}
-use Rattle.rules.specs.Bytes.{if◌then◌else◌, bytes, same}
+use Rattle.rules.specs.Bytes.{bytes, same}
 use Rattle.rules.specs.Widths.{behind}
 use Rattle.rules.specs.Find.{may_ask}
 use Rattle.query_line.specs.declared.Kind.{Kind}

@@ -1,9 +1,11 @@
 // What one line of the query is: a glyph, a gap, or wrong.
+#![tactic(auto)]
+
 ghost use Rattle.std.specs.Prelude.{◌≡◌};
 ghost use Rattle.query_line.specs.Kinds.{glyph_kind, gap_kind, kind_of};
 
 // What a line of the query is.
-#[derive(Drop)]
+#[derive(Clone, Copy)]
 pub enum Kind {
     Glyph,
     Gap,

@@ -1,5 +1,7 @@
 // The reader: a stream with its width list, and two lent rows (document 01). One pass judges the stream, and where nothing
 // is against it a second one fills the rows.
+#![tactic(auto)]
+
 ghost use Rattle.rules.specs.Calls.{ReadCall};
 
 use rules::{Entry, Reading, Record};

@@ -1,6 +1,5 @@
 -- What a control does, and what no rule reads; any other command is refused.
-use Rattle.std.specs.Prelude.{ℕ, eqb}
-use Rattle.rules.specs.Bytes.{if◌then◌else◌}
+use Rattle.std.specs.Prelude.{ℕ, eqb, if◌then◌else◌}
 use Rattle.scan_command.specs.declared.Command.{Command}
 use Rattle.scan_command.specs.declared.Command.TheVariants as C
 use Rattle.read_model.specs.declared.Environment.{Environment}

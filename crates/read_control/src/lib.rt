@@ -1,4 +1,6 @@
 // A control's command: its entry, and the phase that it leads to (document 01, "Controls"; refusal 7), and what no rule reads.
+#![tactic(auto)]
+
 ghost use Rattle.std.specs.Prelude.{◌≡◌};
 ghost use Rattle.read_model.specs.declared.Emitted.TheVariants as E;
 ghost use Rattle.read_model.specs.Environment.{with_phase, refusing, doing, raw_here, control_here, in_body_or, phase_or, control_on};

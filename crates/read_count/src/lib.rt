@@ -1,4 +1,6 @@
 // The state behind a command, and behind what is skipped: what the command gives is counted and goes to its row, where there is room.
+#![tactic(auto)]
+
 ghost use Rattle.std.specs.Prelude.{true, ◌≡◌, ◌-◌, ◌≤◌, ◌<◌};
 ghost use Rattle.read_model.specs.declared.Emitted.TheVariants as E;
 ghost use Rattle.read_model.specs.Turns.{halted_at, gone_to, filling, emitted, point_of, done_of, skipped};

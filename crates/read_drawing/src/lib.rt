@@ -1,4 +1,6 @@
 // A drawing's command: its entry, and where it leaves the environment (document 01, "Drawing"; refusals 7 and 10).
+#![tactic(auto)]
+
 ghost use Rattle.std.specs.Prelude.{◌≡◌, ◌*◌, ◌≤◌};
 ghost use Rattle.rules.specs.Bytes.{origin};
 ghost use Rattle.read_model.specs.Environment.{drawing_here, on_page_or, draw_on, gray_colour, gray_on, fill_on};

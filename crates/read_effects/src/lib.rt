@@ -1,4 +1,6 @@
 // What a command does to the environment, and what it gives to the rows: here each command goes to the crate that it is about.
+#![tactic(auto)]
+
 ghost use Rattle.std.specs.Prelude.{◌≡◌, ◌≤◌, ◌<◌, length};
 ghost use Rattle.read_model.specs.Turns.{did_at};
 ghost use Rattle.read_model.specs.Fits.{EnvFits, CommandIn};

@@ -1,11 +1,12 @@
 -- A choice by a test, in the form in which `search` applies it.
+use Rattle.std.specs.Prelude.{if◌then◌else◌}
 use Prim.Native.Nat.{ℕ, ◌+◌, ◌*◌, ◌-◌, ◌≤◌, ◌<◌}
 use native.Mathlib.Omega.{arith}
 use mathlib.Core.Bool.{Bool, true, false, ◌&&◌}
 use mathlib.Core.Path.{◌≡◌, refl, ◌∙◌}
 use lib.Dec.{eqb, ltb}
 use borrow.Author.Tests.{eq-eqb, ne_eqb, lt-ltb, le-ltb, ltb-true}
-use Rattle.rules.specs.Bytes.{if◌then◌else◌, origin}
+use Rattle.rules.specs.Bytes.{origin}
 use Rattle.laws.proofs.Cases.{on, and_left, and_right}
 use Rattle.read_environment.specs.Parts.{gone_to}
 

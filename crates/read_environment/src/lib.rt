@@ -1,5 +1,7 @@
 // The environment's parts set anew, what a command did, and the helpers that every command's effect rests on. The definitions stand in
 // read_model's specs/.
+#![tactic(auto)]
+
 ghost use Rattle.std.specs.Prelude.{◌≡◌, ◌-◌, ◌*◌, ◌≤◌, ◌<◌, get_or};
 ghost use Rattle.rules.specs.Bytes.{origin};
 ghost use Rattle.rules.specs.Record.{shown};

@@ -1,9 +1,10 @@
 -- The answer of each return, in the form in which `search` applies it.
+use Rattle.std.specs.Prelude.{if◌then◌else◌}
 use Prim.Native.Nat.{ℕ, ◌+◌, ◌-◌}
 use mathlib.Core.Path.{◌≡◌}
 use lib.IntN.{ℤ}
 use borrow.Author.Rules.{rules}
-use Rattle.rules.specs.Bytes.{if◌then◌else◌, origin}
+use Rattle.rules.specs.Bytes.{origin}
 use Rattle.rules.specs.Record.{shown}
 use Rattle.read_model.specs.declared.Environment.{Environment}
 use Rattle.read_model.specs.declared.Did.{Did}

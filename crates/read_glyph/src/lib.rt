@@ -1,4 +1,6 @@
 // A glyph's command: its record at the environment's place (document 01, "Commands of one letter"; refusals 7, 8 and 10).
+#![tactic(auto)]
+
 ghost use Rattle.std.specs.Prelude.{◌≡◌, ◌+◌, ◌≤◌};
 ghost use Rattle.read_model.specs.Environment.{record_here, record_on, glyph_on, on_page_or, index_on, pair_on};
 ghost use Rattle.read_environment.specs.Bounds.{Fits};

@@ -1,24 +1,24 @@
 -- What the code does for a command that is one act is what the rules say of the act.
+use Rattle.std.specs.Prelude.{if◌then◌else◌}
 use Prim.Native.Nat.{ℕ, zero, suc, ◌+◌, ◌*◌, ◌-◌, ◌<◌}
 use native.Mathlib.Omega.{arith}
 use mathlib.Core.Bool.{Bool, true, false, not, ◌&&◌}
-use mathlib.Core.List.{List, [], ◌∷◌, ◌++◌, map}
-use mathlib.Core.Option.{Option, none, some}
-use mathlib.Core.Path.{◌≡◌, refl, sym, ap, ap₂, ◌∙◌}
+use mathlib.Core.List.{List, [], ◌∷◌, map}
+use mathlib.Core.Path.{◌≡◌, refl, ap, ap₂}
 use lib.Dec.{ltb, eqb}
-use lib.ListN.{length, get_or, set}
-use borrow.Author.Tests.{lt-ltb, eq-eqb, ne_eqb}
+use lib.ListN.{length, set}
+use borrow.Author.Tests.{lt-ltb}
 use Rattle.rules.specs.declared.Record.{Record}
 use Rattle.rules.specs.declared.Entry.{Entry}
 use Rattle.rules.specs.declared.Colour.{Colour}
-use Rattle.rules.specs.Bytes.{if◌then◌else◌, origin, within}
-use Rattle.rules.specs.Act.{Axis, across, down, Scheme, cmy, default, gray, cmyk, rgb, Shape, line, arc, circle, solid_circle, ellipse, solid_ellipse, polygon, solid_polygon, spline, thickness, gray_fill, colour_fill, Plain, Act, glyph, index, to, by, page, font, size, colour, break, space, draw, device, resolution, init, file, mount, plain, raw, stop}
+use Rattle.rules.specs.Bytes.{origin, within}
+use Rattle.rules.specs.Act.{across, down, Scheme, cmy, default, gray, cmyk, rgb, Shape, line, arc, circle, solid_circle, ellipse, solid_ellipse, polygon, solid_polygon, spline, thickness, gray_fill, colour_fill, Act, glyph, index, to, by, page, font, size, colour, break, space, draw, device, resolution, init, file, mount, plain, raw, stop}
 use Rattle.rules.specs.Drawing.{way_of, still}
-use Rattle.rules.specs.State.{Env, Spot, Glyph, Item, Paint, Step, refused, went, act, effect, with_font, mounted_at, is_mounted, set_font, set_glyph_paint, set_fill_paint, to_font, may_go, drawn_to, filled, padded, painted, grayed, recorded, indexed}
+use Rattle.rules.specs.State.{Paint, Step, refused, went, act, with_font, mounted_at, is_mounted, set_font, set_glyph_paint, to_font, may_go, drawn_to, filled, padded, painted, grayed, recorded, indexed}
 use Rattle.rules.specs.Record.{record_of, entry_of, glyph_rows, item_rows, scheme_letter, shape_letter, third_letter}
-use Rattle.scan_command.specs.View.{act_of, draw_of, part, first}
-use Rattle.laws.proofs.Cases.{on, no, if_on}
-use Rattle.laws.proofs.Good.{Name, Shaped, Good}
+use Rattle.scan_command.specs.View.{act_of, part}
+use Rattle.laws.proofs.Cases.{on}
+use Rattle.laws.proofs.Good.{Name, Shaped}
 use Rattle.read_model.specs.declared.Environment.{Environment}
 use Rattle.read_model.specs.declared.Emitted.{Emitted}
 use Rattle.read_model.specs.declared.Emitted.TheVariants as E

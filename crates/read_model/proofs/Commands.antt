@@ -1,31 +1,27 @@
 -- What the code does for a command is what the rules say of it.
-use Prim.Native.Nat.{ℕ, zero, suc, ◌+◌, ◌*◌, ◌-◌, ◌<◌, ◌≤◌}
+use Rattle.std.specs.Prelude.{if◌then◌else◌}
+use Prim.Native.Nat.{ℕ, zero, suc, ◌+◌, ◌-◌, ◌<◌}
 use native.Mathlib.Omega.{arith}
-use mathlib.Core.Bool.{Bool, true, false, ◌&&◌}
-use mathlib.Core.List.{List, [], ◌∷◌, ◌++◌, map, append-nil}
-use mathlib.Core.Option.{Option, none, some}
-use mathlib.Core.Path.{◌≡◌, refl, sym, ap, ap₂, ◌∙◌}
-use lib.Dec.{ltb, eqb}
-use lib.ListN.{length, get_or}
+use mathlib.Core.Bool.{true, ◌&&◌}
+use mathlib.Core.List.{List, [], ◌∷◌, append-nil}
+use mathlib.Core.Path.{◌≡◌, refl, sym, ap}
+use lib.Dec.{ltb}
+use lib.ListN.{length}
 use borrow.Author.Tests.{lt-ltb, eq-eqb, ne_eqb}
-use Rattle.rules.specs.declared.Record.{Record}
-use Rattle.rules.specs.Bytes.{if◌then◌else◌, origin}
-use Rattle.rules.specs.Act.{across, Act, glyph, by, font, Cmd, just, word, pair}
-use Rattle.rules.specs.Widths.{Widths, Font, width_of, advance}
-use Rattle.rules.specs.State.{Env, Glyph, Item, Step, refused, went, before, and_then, act, run, Acts, no_acts, these, ready, word_acts, word_in, acts, perform, mounted_at, is_mounted}
-use Rattle.rules.specs.Record.{record_of, entry_of, glyph_rows, item_rows}
-use Rattle.scan_command.specs.View.{act_of, cmd_of}
-use Rattle.laws.proofs.Cases.{on, no}
-use Rattle.laws.proofs.Good.{Name, Shaped, ShapedCmd}
-use Rattle.laws_read.proofs.Runs.{before_nil}
+use Rattle.rules.specs.Bytes.{origin}
+use Rattle.rules.specs.Act.{across, Act, glyph, by, Cmd, just, word, pair}
+use Rattle.rules.specs.Widths.{Widths, advance}
+use Rattle.rules.specs.State.{Step, refused, went, and_then, act, run, Acts, no_acts, these, ready, word_acts, word_in, acts, perform, mounted_at}
+use Rattle.rules.specs.Record.{glyph_rows, item_rows}
+use Rattle.scan_command.specs.View.{cmd_of}
+use Rattle.laws.proofs.Cases.{on}
+use Rattle.laws.proofs.Good.{Name, ShapedCmd}
 use Rattle.read_model.specs.declared.Environment.{Environment}
-use Rattle.read_model.specs.declared.Word.{Word}
-use Rattle.read_model.specs.declared.Emitted.TheVariants as E
 use Rattle.read_model.specs.declared.Did.{Did}
-use Rattle.read_model.specs.Environment.{font_of, env_of, refusing, doing, with_gap, with_spot, on_page, is_set, may_move, on_page_or, record_on, pair_on, did_of}
+use Rattle.read_model.specs.Environment.{font_of, env_of, refusing, with_spot, on_page, may_move, on_page_or, record_on, pair_on, did_of}
 use Rattle.read_model.specs.Words.{all_wide, word_end, word_records, word_here, word_to, word_on}
 use Rattle.read_model.proofs.Acts.{Agrees, Placed, mounts_after, act_agrees, MountOf}
-use Rattle.read_model.proofs.Words.{Reads, Wide, acts_wide, Ran, Carries, word_runs, here}
+use Rattle.read_model.proofs.Words.{Reads, Wide, acts_wide, Ran, Carries, word_runs}
 
 -- ---- a word
 

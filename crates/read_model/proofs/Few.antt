@@ -1,24 +1,23 @@
 -- A command gives no more records and entries than it has bytes.
-use Prim.Native.Nat.{ℕ, zero, suc, ◌+◌, ◌*◌, ◌-◌, ◌<◌, ◌≤◌}
+use Rattle.std.specs.Prelude.{if◌then◌else◌}
+use Prim.Native.Nat.{ℕ, zero, suc, ◌+◌, ◌-◌, ◌≤◌}
 use native.Mathlib.Omega.{arith}
-use mathlib.Core.Bool.{Bool, true, false, ◌&&◌}
-use mathlib.Core.List.{List, [], ◌∷◌}
-use mathlib.Core.Path.{◌≡◌, refl, sym, ap, ◌∙◌}
+use mathlib.Core.Bool.{Bool, ◌&&◌}
+use mathlib.Core.List.{List}
+use mathlib.Core.Path.{◌≡◌, refl}
 use lib.Dec.{ltb, eqb}
 use lib.ListN.{length}
-use Rattle.rules.specs.Bytes.{if◌then◌else◌, origin}
-use Rattle.rules.specs.Act.{Cmd, just, word, pair, Act, Shape, glyph, index, to, by, page, font, size, colour, break, space, draw, device, resolution, init, file, mount, plain, raw, stop, line, arc, circle, solid_circle, ellipse, solid_ellipse, polygon, solid_polygon, spline, thickness, gray_fill, colour_fill}
+use Rattle.rules.specs.Bytes.{origin}
+use Rattle.rules.specs.Act.{Cmd, just, word, pair, Act, glyph, index, to, by, page, font, size, colour, break, space, draw, device, resolution, init, file, mount, plain, raw, stop, line, arc, circle, solid_circle, ellipse, solid_ellipse, polygon, solid_polygon, spline, thickness, gray_fill, colour_fill}
 use Rattle.rules.specs.Scan.{name_in}
 use Rattle.scan_command.specs.declared.Command.{Command}
 use Rattle.scan_command.specs.declared.Command.TheVariants as C
 use Rattle.scan_command.specs.View.{act_of, cmd_of}
 use Rattle.laws.proofs.Cases.{if_both}
 use Rattle.read_model.specs.declared.Environment.{Environment}
-use Rattle.read_model.specs.declared.Emitted.{Emitted}
-use Rattle.read_model.specs.declared.Emitted.TheVariants as E
 use Rattle.read_model.specs.declared.Did.{Did}
-use Rattle.read_model.specs.Environment.{refusing, doing, with_spot, record_on, is_set, on_page, in_body, may_move, may_go, on_page_or, in_body_or, phase_or, glyph_on, index_on, pair_on, to_on, by_on, page_on, font_on, draw_on, did_of}
-use Rattle.read_model.specs.Words.{all_wide, word_end, word_here, word_to, word_on}
+use Rattle.read_model.specs.Environment.{refusing, is_set, on_page, in_body, may_move, may_go, to_on, by_on, did_of}
+use Rattle.read_model.specs.Words.{all_wide, word_end, word_here, word_on}
 use Rattle.read_model.specs.Turns.{asked_mount, block_now, word_asked, did_at, next_of}
 use Rattle.read_model.proofs.Acts.{records_in, entries_in}
 use Rattle.read_model.proofs.Rows.{word_length}

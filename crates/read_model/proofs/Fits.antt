@@ -1,25 +1,26 @@
 -- Every command that is scanned is within the bounds, and every command keeps the environment within them.
+use Rattle.std.specs.Prelude.{if◌then◌else◌}
 use Prim.Native.Nat.{ℕ, zero, suc, ◌+◌, ◌*◌, ◌-◌, ◌<◌, ◌≤◌}
 use native.Mathlib.Omega.{arith}
 use mathlib.Core.Bool.{Bool, true, false, ◌&&◌}
 use mathlib.Core.List.{List, [], ◌∷◌, map}
-use mathlib.Core.Path.{◌≡◌, refl, sym, ap, ◌∙◌}
+use mathlib.Core.Path.{◌≡◌, refl, sym}
 use lib.Dec.{ltb, eqb}
 use lib.ListN.{length, drop, get_or, length-drop}
 use borrow.Author.Tests.{ltb-true}
-use Rattle.rules.specs.Bytes.{if◌then◌else◌, origin, most, within, near}
-use Rattle.rules.specs.Act.{Axis, across, down, Shape, line, arc, circle, solid_circle, ellipse, solid_ellipse, polygon, solid_polygon, spline, thickness, gray_fill, colour_fill, Act, glyph, index, to, by, page, font, size, colour, break, space, draw, device, resolution, init, file, mount, plain, raw, stop, Cmd, just, word, pair}
+use Rattle.rules.specs.Bytes.{origin, most, within, near}
+use Rattle.rules.specs.Act.{Shape, line, arc, circle, solid_circle, ellipse, solid_ellipse, polygon, solid_polygon, spline, thickness, gray_fill, colour_fill, Act, glyph, index, to, by, page, font, size, colour, break, space, draw, device, resolution, init, file, mount, plain, raw, stop, Cmd, just, word, pair}
 use Rattle.rules.specs.Drawing.{Way, pairwise, first_across, way_of}
-use Rattle.rules.specs.Scan.{Scan, name_of, name_in, got, bad, is_name, is_position, is_positive, is_gray, up_to, limits, command}
+use Rattle.rules.specs.Scan.{Scan, name_of, name_in, got, bad, is_name, is_position, is_positive, is_gray, up_to, command}
 use Rattle.scan_command.specs.declared.Command.{Command}
 use Rattle.scan_command.specs.declared.Command.TheVariants as C
 use Rattle.rules.specs.declared.Colour.{Colour}
 use Rattle.scan_command.specs.View.{draw_of, act_of, cmd_of, command_of, command_at}
 use Rattle.laws.proofs.Cases.{no, if_both, if_on, and_left, and_right, not_zero}
-use Rattle.laws.proofs.Good.{all_true, Name, Shaped, Good, GoodCmd}
+use Rattle.laws.proofs.Good.{all_true, Good, GoodCmd}
 use Rattle.laws.proofs.Limits.{within_bounds, up_to-near, up_to_few}
 use Rattle.laws_scan.proofs.Fair.{GoodScan, command_good}
-use Rattle.laws_scan.proofs.Bounds.{Within, GotIn, command_in}
+use Rattle.laws_scan.proofs.Bounds.{Within, command_in}
 use Rattle.read_model.specs.declared.Environment.{Environment}
 use Rattle.read_model.specs.declared.Did.{Did}
 use Rattle.read_model.specs.declared.Word.{Word}

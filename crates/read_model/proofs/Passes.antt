@@ -1,30 +1,29 @@
 -- A pass reads the stream as the rules do: from any place on, it ends as they say, and leaves in the rows what they say.
+use Rattle.std.specs.Prelude.{if◌then◌else◌}
 use Prim.Native.Nat.{ℕ, zero, suc, ◌+◌, ◌-◌, ◌<◌, ◌≤◌}
 use native.Mathlib.Omega.{arith}
 use native.Mathlib.Nat.{add-zero}
-use mathlib.Core.Bool.{Bool, true, false}
+use mathlib.Core.Bool.{true, false}
 use mathlib.Core.List.{List, [], ◌∷◌, ◌++◌, map, map-append}
 use mathlib.Core.Logic.{◌⊎◌, inl, inr}
-use mathlib.Core.Path.{◌≡◌, refl, sym, ap, ap₂, ◌∙◌}
+use mathlib.Core.Path.{◌≡◌, refl, sym, ap, ◌∙◌}
 use lib.Dec.{ltb, eqb}
 use lib.ListN.{length, take, drop, get_or, length-append}
 use lib.Seq.{drop-drop}
 use borrow.Author.Tests.{eqb-false, eq-eqb, ne_eqb}
-use Rattle.rules.specs.declared.Record.{Record}
-use Rattle.rules.specs.declared.Entry.{Entry}
-use Rattle.rules.specs.Bytes.{if◌then◌else◌, is, is_white, one_line}
+use Rattle.rules.specs.Bytes.{is, is_white, one_line}
 use Rattle.rules.specs.Act.{Cmd}
-use Rattle.rules.specs.Scan.{Scan, name_in, got, bad, command, Cmds, done, wrong, next}
+use Rattle.rules.specs.Scan.{Scan, name_in, got, bad, command}
 use Rattle.rules.specs.Widths.{Widths}
-use Rattle.rules.specs.State.{Env, Glyph, Item, Step, refused, went, acts, perform, stopped}
+use Rattle.rules.specs.State.{Env, Glyph, Item, Step, refused, went, acts, perform}
 use Rattle.rules.specs.Record.{GlyphRow, ItemRow, Answer, refuse, answer, glyph_rows, item_rows, after_rows, go_on, follow, record_of, entry_of}
 use Rattle.scan_command.specs.declared.Command.{Command}
 use Rattle.scan_command.specs.View.{cmd_of, command_at}
 use Rattle.laws.proofs.Cases.{on, if_both}
 use Rattle.laws.proofs.Good.{GoodCmd}
 use Rattle.laws_read.proofs.Numbers.{StepIn, step_in}
-use Rattle.laws_scan.proofs.Fair.{GoodScan, command_good}
-use Rattle.laws_scan.proofs.Bounds.{Within, GotIn, command_in, bad_place}
+use Rattle.laws_scan.proofs.Fair.{command_good}
+use Rattle.laws_scan.proofs.Bounds.{GotIn, command_in, bad_place}
 use Rattle.laws_scan.proofs.Walk.{from, cons_at, comment_in, got_in, from_end, from_white, from_comment, from_bad, from_got}
 use Rattle.read_model.specs.declared.Environment.{Environment}
 use Rattle.read_model.specs.declared.Did.{Did}

@@ -1,18 +1,17 @@
 -- What a turn does to the numbers of records and entries and to the rows.
-use Prim.Native.Nat.{ℕ, zero, suc, ◌+◌, ◌-◌, ◌<◌, ◌≤◌}
+use Rattle.std.specs.Prelude.{if◌then◌else◌}
+use Prim.Native.Nat.{ℕ, zero, suc, ◌+◌, ◌-◌, ◌≤◌}
 use native.Mathlib.Omega.{arith}
 use native.Mathlib.Nat.{add-zero}
 use native.Mathlib.Numerals.{add-one}
-use mathlib.Core.Bool.{Bool, true, false}
+use mathlib.Core.Bool.{Bool}
 use mathlib.Core.List.{List, [], ◌∷◌, ◌++◌}
-use mathlib.Core.Path.{◌≡◌, refl, sym, ap, ap₂, ◌∙◌}
-use lib.Dec.{ltb, eqb}
+use mathlib.Core.Path.{◌≡◌, refl, sym, ap, ◌∙◌}
 use lib.ListN.{length, drop, set}
 use lib.Seq.{sets, sets-eq}
 use borrow.Author.Tests.{lt-ltb, le-ltb}
 use Rattle.rules.specs.declared.Record.{Record}
 use Rattle.rules.specs.declared.Entry.{Entry}
-use Rattle.rules.specs.Bytes.{if◌then◌else◌}
 use Rattle.rules.specs.Record.{over}
 use Rattle.laws.proofs.Cases.{on}
 use Rattle.read_model.specs.declared.Environment.{Environment}
@@ -20,17 +19,15 @@ use Rattle.read_model.specs.declared.Word.{Word}
 use Rattle.read_model.specs.declared.Emitted.{Emitted}
 use Rattle.read_model.specs.declared.Emitted.TheVariants as E
 use Rattle.read_model.specs.declared.State.{State}
-use Rattle.read_model.specs.declared.Effect.{Effect}
-use Rattle.read_model.specs.declared.Effect.TheVariants as F
 use Rattle.read_model.specs.declared.Turned.{Turned}
 use Rattle.read_model.specs.Words.{word_next, word_record, word_records}
-use Rattle.read_model.specs.Turns.{gone_to, fills_records, fills_entries, filling, emitted}
+use Rattle.read_model.specs.Turns.{gone_to, fills_records, fills_entries, emitted}
 use Rattle.read_model.specs.Passes.{word_fill, records_after, entries_after}
 use Rattle.read_model.proofs.Acts.{records_in, entries_in}
 
 -- ---- what is written from k on, where the rows are filled
 
-abbrev pub written {ℓ} : {A : Type ℓ} → Bool → List A → ℕ → List A → List A
+abbrev pub written : {A : Type 0} → Bool → List A → ℕ → List A → List A
 written fill old k new = if fill then sets old k new else old
 
 pub sets_append {ℓ} : {A : Type ℓ} (xs ys old : List A) (k : ℕ) → sets (sets old k xs) (k + length xs) ys ≡ sets old k (xs ++ ys)
@@ -39,10 +36,10 @@ sets_append (x ∷ xs) ys old k =
     let e : k + suc (length xs) ≡ suc k + length xs = omega arith in
     ap (λ (i : ℕ). sets (sets (set old k x) (suc k) xs) i ys) e ∙ sets_append xs ys (set old k x) (suc k)
 
-pub written-append {ℓ} : {A : Type ℓ} (fill : Bool) (xs ys old : List A) (k : ℕ) → written fill (written fill old k xs) (k + length xs) ys ≡ written fill old k (xs ++ ys)
+pub written-append : {A : Type 0} (fill : Bool) (xs ys old : List A) (k : ℕ) → written fill (written fill old k xs) (k + length xs) ys ≡ written fill old k (xs ++ ys)
 written-append fill xs ys old k = on fill (λ e. rw e (sets_append xs ys old k)) (λ e. rw e)
 
-pub written_none {ℓ} : {A : Type ℓ} (fill : Bool) (old : List A) (k : ℕ) → written fill old k [] ≡ old
+pub written_none : {A : Type 0} (fill : Bool) (old : List A) (k : ℕ) → written fill old k [] ≡ old
 written_none fill old k = on fill (λ e. rw e) (λ e. rw e)
 
 -- what is written from the first place on stands in front of what was there

@@ -1,4 +1,5 @@
 -- What the code does for a word is what the rules say of it.
+use Rattle.std.specs.Prelude.{if◌then◌else◌}
 use Prim.Native.Nat.{ℕ, zero, suc, ◌+◌, ◌*◌, ◌-◌, ◌<◌}
 use native.Mathlib.Omega.{arith}
 use mathlib.Core.Bool.{Bool, true, false}
@@ -9,7 +10,7 @@ use lib.Dec.{ltb}
 use lib.ListN.{length, get_or}
 use borrow.Author.Tests.{lt-ltb, ltb-true}
 use Rattle.rules.specs.declared.Record.{Record}
-use Rattle.rules.specs.Bytes.{if◌then◌else◌, origin}
+use Rattle.rules.specs.Bytes.{origin}
 use Rattle.rules.specs.Act.{across, Act, glyph, by}
 use Rattle.rules.specs.Widths.{Font, width_of, advance}
 use Rattle.rules.specs.State.{Env, Glyph, Step, refused, went, before, on_page, with_font, recorded, act, run, Acts, no_acts, these, byte_acts, word_acts, glyph_of, set_gap, set_spot}

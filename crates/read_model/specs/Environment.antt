@@ -1,19 +1,17 @@
 -- The environment as the code holds it, and what each command does to it. In the code's own steps; the laws that this is what the rules
 -- say stand in proofs/.
-use Rattle.std.specs.Prelude.{ℕ, zero, suc, ◌+◌, ◌*◌, ◌-◌, ◌/◌, Bool, true, false, ◌&&◌, ◌||◌, List, [], ◌∷◌, ◌++◌, map, leb, ltb, eqb, ℤ, pos, ◌-ℤ◌, length, get_or, set}
+use Rattle.std.specs.Prelude.{ℕ, zero, suc, ◌+◌, ◌*◌, ◌-◌, ◌/◌, Bool, ◌&&◌, List, [], ◌∷◌, ltb, eqb, if◌then◌else◌}
 use Rattle.std.proofs.Math.Option.{Option, none, some}
 use Rattle.rules.specs.declared.Colour.{Colour}
 use Rattle.rules.specs.declared.Record.{Record}
 use Rattle.rules.specs.declared.Entry.{Entry}
-use Rattle.rules.specs.Bytes.{if◌then◌else◌, is, origin, within}
+use Rattle.rules.specs.Bytes.{is, origin, within}
 use Rattle.rules.specs.Act.{Scheme, cmy, default, gray, cmyk, rgb}
-use Rattle.rules.specs.State.{Spot, Paint, Env}
+use Rattle.rules.specs.State.{Paint, Env}
 use Rattle.rules.specs.Record.{shown}
-use Rattle.rules.specs.Widths.{advance}
 use Rattle.scan_command.specs.declared.Command.{Command}
 use Rattle.scan_command.specs.declared.Command.TheVariants as C
 use Rattle.read_model.specs.declared.Environment.{Environment}
-use Rattle.read_model.specs.declared.Word.{Word}
 use Rattle.read_model.specs.declared.Emitted.{Emitted}
 use Rattle.read_model.specs.declared.Emitted.TheVariants as E
 use Rattle.read_model.specs.declared.Did.{Did}

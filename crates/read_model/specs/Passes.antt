@@ -1,13 +1,11 @@
 -- A whole pass over the stream, with what it leaves in the rows, in the code's own steps.
-use Rattle.std.specs.Prelude.{ℕ, zero, suc, ◌+◌, Bool, true, false, List, [], ◌∷◌, eqb, set}
+use Rattle.std.specs.Prelude.{ℕ, zero, suc, ◌+◌, List, eqb, set, if◌then◌else◌}
 use Rattle.rules.specs.declared.Record.{Record}
 use Rattle.rules.specs.declared.Entry.{Entry}
-use Rattle.rules.specs.Bytes.{if◌then◌else◌}
 use Rattle.read_model.specs.declared.Word.{Word}
 use Rattle.read_model.specs.declared.State.{State}
 use Rattle.read_model.specs.declared.Effect.{Effect}
 use Rattle.read_model.specs.declared.Effect.TheVariants as F
-use Rattle.read_model.specs.declared.Turned.{Turned}
 use Rattle.read_model.specs.Words.{word_next, word_record}
 use Rattle.read_model.specs.Turns.{turn_of, scratch_of}
 

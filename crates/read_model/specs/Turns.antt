@@ -1,13 +1,10 @@
 -- One turn of a pass, and a whole pass, in the code's own steps.
-use Rattle.std.specs.Prelude.{ℕ, zero, suc, ◌+◌, ◌*◌, ◌-◌, Bool, true, false, ◌&&◌, List, [], ◌∷◌, ◌++◌, leb, ltb, eqb, length, take, drop, get_or, set}
-use Rattle.rules.specs.declared.Record.{Record}
-use Rattle.rules.specs.declared.Entry.{Entry}
-use Rattle.rules.specs.Bytes.{if◌then◌else◌, is, is_white, one_line}
+use Rattle.std.specs.Prelude.{ℕ, ◌+◌, ◌-◌, Bool, List, ltb, eqb, length, take, drop, get_or, set, if◌then◌else◌}
+use Rattle.rules.specs.Bytes.{is, is_white, one_line}
 use Rattle.scan_command.specs.declared.Command.{Command}
 use Rattle.scan_command.specs.declared.Command.TheVariants as C
 use Rattle.scan_command.specs.View.{command_at}
 use Rattle.read_model.specs.declared.Environment.{Environment}
-use Rattle.read_model.specs.declared.Word.{Word}
 use Rattle.read_model.specs.declared.Emitted.{Emitted}
 use Rattle.read_model.specs.declared.Emitted.TheVariants as E
 use Rattle.read_model.specs.declared.Did.{Did}
@@ -16,7 +13,7 @@ use Rattle.read_model.specs.declared.Effect.{Effect}
 use Rattle.read_model.specs.declared.Effect.TheVariants as F
 use Rattle.read_model.specs.declared.Turned.{Turned}
 use Rattle.read_model.specs.Environment.{refusing, in_body, did_of}
-use Rattle.read_model.specs.Words.{word_on, word_record, word_next}
+use Rattle.read_model.specs.Words.{word_on}
 
 -- ---- The scratch row: first the mounts, at each of the 256 positions 0 for none, else the number of the font's block; then the
 -- blocks of widths, 256 places each. The block of the font of a slot has the number slot + 1.

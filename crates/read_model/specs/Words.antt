@@ -1,12 +1,11 @@
 -- A word as the code sets it: its widths by the table, where it ends, and its records. In the code's own steps.
-use Rattle.std.specs.Prelude.{ℕ, zero, suc, ◌+◌, ◌*◌, ◌-◌, Bool, true, false, ◌&&◌, List, [], ◌∷◌, ltb, eqb, length, get_or}
+use Rattle.std.specs.Prelude.{ℕ, zero, suc, ◌+◌, ◌*◌, ◌-◌, Bool, true, ◌&&◌, List, [], ◌∷◌, ltb, eqb, get_or, if◌then◌else◌}
 use Rattle.rules.specs.declared.Record.{Record}
-use Rattle.rules.specs.Bytes.{if◌then◌else◌, origin}
+use Rattle.rules.specs.Bytes.{origin}
 use Rattle.rules.specs.Widths.{advance}
 use Rattle.rules.specs.Record.{shown}
 use Rattle.read_model.specs.declared.Environment.{Environment}
 use Rattle.read_model.specs.declared.Word.{Word}
-use Rattle.read_model.specs.declared.Emitted.{Emitted}
 use Rattle.read_model.specs.declared.Emitted.TheVariants as E
 use Rattle.read_model.specs.declared.Did.{Did}
 use Rattle.read_model.specs.Environment.{with_spot, with_gap, is_set, may_move, refusing, doing}

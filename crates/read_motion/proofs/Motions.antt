@@ -1,8 +1,9 @@
 -- The answer of each return, in the form in which `search` applies it.
+use Rattle.std.specs.Prelude.{if◌then◌else◌}
 use Prim.Native.Nat.{ℕ, zero, suc, ◌+◌, ◌-◌}
 use mathlib.Core.Path.{◌≡◌, refl}
 use borrow.Author.Rules.{rules}
-use Rattle.rules.specs.Bytes.{if◌then◌else◌, origin}
+use Rattle.rules.specs.Bytes.{origin}
 use Rattle.read_model.specs.declared.Environment.{Environment}
 use Rattle.read_model.specs.declared.Did.{Did}
 use Rattle.read_model.specs.declared.Emitted.TheVariants as E

@@ -1,4 +1,6 @@
 // Motions, pages and settings: commands that write no row (document 01, "Commands of one letter"; refusals 7, 8 and 10).
+#![tactic(auto)]
+
 ghost use Rattle.std.specs.Prelude.{◌≡◌, ◌<◌};
 ghost use Rattle.read_model.specs.declared.Emitted.TheVariants as E;
 ghost use Rattle.read_model.specs.Environment.{with_size, with_gap, with_ink, doing, on_page_or, in_body_or, to_on, by_on, page_on, font_on};

@@ -1,4 +1,6 @@
 // `x f` mounts a font: the scratch row tells its block of widths.
+#![tactic(auto)]
+
 ghost use Rattle.std.specs.Prelude.{◌≡◌, ◌+◌, ◌≤◌, ◌<◌, length, take, drop, set};
 ghost use Rattle.read_model.specs.Fits.{CommandIn};
 ghost use Rattle.read_model.specs.Turns.{scratch_after};

@@ -1,4 +1,6 @@
 // Where a turn goes on behind a command.
+#![tactic(auto)]
+
 ghost use Rattle.std.specs.Prelude.{◌≡◌};
 ghost use Rattle.read_model.specs.Turns.{next_of};
 

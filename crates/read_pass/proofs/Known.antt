@@ -1,10 +1,9 @@
 -- What is known of a pass where a turn begins, and that a turn keeps it.
 use Prim.Native.Nat.{ℕ, zero, suc, ◌+◌, ◌-◌, ◌<◌, ◌≤◌}
 use native.Mathlib.Omega.{arith}
-use mathlib.Core.Bool.{Bool, true, false}
-use mathlib.Core.List.{List, [], ◌∷◌}
-use mathlib.Core.Path.{◌≡◌, refl, sym, ap, ap₂, subst, ◌∙◌}
-use lib.Dec.{eqb}
+use mathlib.Core.Bool.{true}
+use mathlib.Core.List.{List}
+use mathlib.Core.Path.{◌≡◌, refl, sym, ap, subst, ◌∙◌}
 use lib.ListN.{length, take, drop, set, length-set}
 use lib.Seq.{drop-drop}
 use borrow.Author.Tests.{eq-eqb, ne_eqb}
@@ -12,7 +11,6 @@ use Rattle.rules.specs.declared.Record.{Record}
 use Rattle.rules.specs.declared.Entry.{Entry}
 use Rattle.widths_table.specs.Slots.{slot_in}
 use Rattle.read_model.specs.declared.Word.{Word}
-use Rattle.read_model.specs.declared.State.{State}
 use Rattle.read_model.specs.declared.Effect.{Effect}
 use Rattle.read_model.specs.declared.Effect.TheVariants as F
 use Rattle.read_model.specs.declared.Turned.{Turned}
@@ -81,7 +79,7 @@ module _ (list s : List ℕ) (p₀ : ReadPass) where
   abbrev pub behind : ReadPass → Turned → List ℕ → ReadPass
   behind p x ws = record { state = x.state; scratch = ws; records = records_after s p.scratch p.records x.effect; entries = entries_after p.entries x.effect }
 
-  module _ (k : ℕ) (p : ReadPass) (kn : Known (suc k) p) (going : 0 < p.state.left) (x : Turned) (ws : List ℕ) (e : x ≡ turn_of s p.scratch p.state) (m : ws ≡ scratch_of (find_in list p.state.fonts p.scratch) s p.scratch p.state) where
+  module _ (k : ℕ) (p : ReadPass) (kn : Known k p) (going : 0 < p.state.left) (x : Turned) (ws : List ℕ) (e : x ≡ turn_of s p.scratch p.state) (m : ws ≡ scratch_of (find_in list p.state.fonts p.scratch) s p.scratch p.state) where
     well : Well s p.scratch p.state x
     well = rw e (turn_well s p.scratch p.state (kn.ready going) kn.scratch.small)
 
@@ -95,28 +93,37 @@ module _ (list s : List ℕ) (p₀ : ReadPass) where
     pub words_keep : WordKeeps p.scratch x.effect ws
     words_keep = rw (e, m) (word_keeps (find_in list p.state.fonts p.scratch) s p.scratch p.state)
 
+    pub less : x.state.left < p.state.left
+    less = well.less
+
     steps : behind p x ws ≡ read_step_of find₀ s p
     steps = rw (m, e, find_same list p.state.fonts p₀.scratch p.scratch kn.kept, kn.fonts)
 
-    one_more : read_pass_for (suc k) find₀ s p ≡ read_pass_for k find₀ s (read_step_of find₀ s p)
-    unfolding read_pass_for
-    one_more = rw (ne_eqb p.state.left 0 (λ z. omega arith))
+    module _ (n : ℕ) (h : k ≡ suc n) where
+      one_more : read_pass_for k find₀ s p ≡ read_pass_for n find₀ s (read_step_of find₀ s p)
+      unfolding read_pass_for
+      one_more = rw (h, ne_eqb p.state.left 0 (λ z. omega arith))
 
-    pub next_known : Known k (behind p x ws)
-    next_known = record {
-      runs = ap (read_pass_for k find₀ s) steps ∙ sym one_more ∙ kn.runs;
-      few = omega (arith, well.less, kn.few);
-      scratch = remounted.scratch;
-      kept = remounted.kept ∙ kn.kept;
-      ready = well.ready;
-      fonts = well.fonts ∙ kn.fonts;
-      unit = well.unit ∙ kn.unit;
-      fits = well.fits;
-      rmax = λ h. well.rmax ∙ kn.rmax (sym (ap fills_records well.fill) ∙ h);
-      emax = λ h. well.emax ∙ kn.emax (sym (ap fills_entries well.fill) ∙ h);
-      records_same = records_length s p.scratch p.records x.effect ∙ kn.records_same;
-      entries_same = entries_length p.entries x.effect ∙ kn.entries_same;
-    }
+      behind_known : Known n (behind p x ws)
+      behind_known = record {
+        runs = ap (read_pass_for n find₀ s) steps ∙ sym one_more ∙ kn.runs;
+        few = omega (arith, well.less, kn.few);
+        scratch = remounted.scratch;
+        kept = remounted.kept ∙ kn.kept;
+        ready = well.ready;
+        fonts = well.fonts ∙ kn.fonts;
+        unit = well.unit ∙ kn.unit;
+        fits = well.fits;
+        rmax = λ h. well.rmax ∙ kn.rmax (sym (ap fills_records well.fill) ∙ h);
+        emax = λ h. well.emax ∙ kn.emax (sym (ap fills_entries well.fill) ∙ h);
+        records_same = records_length s p.scratch p.records x.effect ∙ kn.records_same;
+        entries_same = entries_length p.entries x.effect ∙ kn.entries_same;
+      }
+
+    -- what the rows hold then is what the turn gave
+    pub next_known : (rs : List Record) (es : List Entry) → rs ≡ records_after s p.scratch p.records x.effect → es ≡ entries_after p.entries x.effect
+        → (n : ℕ) × Known n (record { state = x.state; scratch = ws; records = rs; entries = es })
+    next_known rs es a b = (k - 1, rw (a, b) (behind_known (k - 1) (omega (arith, kn.few))))
 
   pub run-done : (k : ℕ) (p : ReadPass) → p.state.left ≤ 0 → read_pass_for k find₀ s p ≡ p
   unfolding read_pass_for
@@ -151,9 +158,13 @@ module _ (list s : List ℕ) (p₀ : ReadPass) where
           let h : 0 < p.state.left = omega arith in
           let x : Turned = turn_of s p.scratch p.state in
           let ws : List ℕ = scratch_of (find_in list p.state.fonts p.scratch) s p.scratch p.state in
-          subst (Known 0) (sym (one_more k p kn h x ws refl refl ∙ ap (read_pass_for k find₀ s) (sym (steps k p kn h x ws refl refl))))
-          (more (behind p x ws) (next_known k p kn h x ws refl refl))
+          subst (Known 0) (sym (one_more (suc k) p kn h x ws refl refl k refl ∙ ap (read_pass_for k find₀ s) (sym (steps (suc k) p kn h x ws refl refl))))
+          (more (behind p x ws) (behind_known (suc k) p kn h x ws refl refl k refl))
 
   -- what a whole pass leaves: the scratch row but for its mounts, the lengths of the rows, an environment within its bounds
   pub pass_known : PassReady (length s) p₀.scratch (length p₀.records) (length p₀.entries) p₀.state → Known 0 (read_pass_of find₀ s p₀)
   pass_known h = ends_known p₀.state.left p₀ (first_known h)
+
+  -- the end of the loop
+  pub ended : (k : ℕ) (p : ReadPass) → Known k p → p.state.left ≤ 0 → p ≡ read_pass_of find₀ s p₀
+  ended k p kn h = sym (run-done k p h) ∙ kn.runs

@@ -1,4 +1,6 @@
 // One pass over the stream, run twice: it judges, or fills the lent rows.
+#![tactic(auto)]
+
 ghost use Rattle.std.specs.Prelude.{◌≡◌, length};
 ghost use Rattle.read_model.specs.Passes.{read_pass_of};
 ghost use Rattle.read_turn.specs.Ready.{find_in};

@@ -1,4 +1,6 @@
 // What the reader writes to the lent rows: one record, one entry, and the records of a word.
+#![tactic(auto)]
+
 ghost use Rattle.std.specs.Prelude.{◌≡◌, ◌<◌, length, set};
 ghost use Rattle.read_model.specs.Passes.{word_fill};
 ghost use Rattle.read_rows.specs.Words.{WordIn};

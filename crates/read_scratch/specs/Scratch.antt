@@ -1,6 +1,5 @@
 -- What the scratch row holds.
-use Rattle.std.specs.Prelude.{ℕ, ◌+◌, ◌*◌, ◌-◌, ◌<◌, ◌≤◌, List, ◌≡◌, ltb, length, take, drop, get_or}
-use Rattle.rules.specs.Bytes.{if◌then◌else◌}
+use Rattle.std.specs.Prelude.{ℕ, ◌+◌, ◌*◌, ◌-◌, ◌<◌, ◌≤◌, List, ◌≡◌, ltb, length, take, drop, get_or, if◌then◌else◌}
 use Rattle.rules.specs.Widths.{Font, WidthList, unsound, sound}
 use Rattle.widths_table.specs.Table.{TableOf, NamesOf}
 use Rattle.read_turn.specs.Ready.{Scratch}

@@ -1,4 +1,6 @@
 // The scratch row: made from the width list, and cleared.
+#![tactic(auto)]
+
 ghost use Rattle.std.specs.Prelude.{◌≡◌, ◌≤◌, ◌<◌, length};
 ghost use Rattle.rules.specs.Widths.{width_list};
 ghost use Rattle.widths.specs.Table.{list_of};

@@ -1,22 +1,20 @@
 -- The states and the answer: the answer of each return, in the form in which `search` applies it.
-use Prim.Native.Nat.{ℕ, ◌+◌, ◌*◌, ◌-◌, ◌<◌, ◌≤◌}
-use native.Mathlib.Omega.{arith}
+use Prim.Native.Nat.{ℕ, ◌*◌, ◌<◌, ◌≤◌}
 use mathlib.Core.Bool.{Bool, true, false, ◌||◌}
-use mathlib.Core.List.{List, [], ◌∷◌}
-use mathlib.Core.Path.{◌≡◌, refl, sym, ap, ap₂, subst, ◌∙◌}
+use mathlib.Core.List.{List}
+use mathlib.Core.Path.{◌≡◌, refl, sym, ap, subst, ◌∙◌}
 use lib.Dec.{ltb, eqb}
 use lib.IntN.{ℤ}
 use lib.ListN.{length}
 use borrow.Author.Rules.{rules}
 use borrow.Author.Tests.{lt-ltb, le-ltb, eq-eqb, ne_eqb, eqb-true}
 use Rattle.rules.specs.declared.Colour.{Colour}
-use Rattle.rules.specs.declared.Reading.{Reading}
 use Rattle.rules.specs.declared.ReadAnswer.TheVariants as R
-use Rattle.rules.specs.Bytes.{if◌then◌else◌, is, origin}
+use Rattle.rules.specs.Bytes.{origin}
 use Rattle.rules.specs.Record.{shown, colour_of, scheme_letter}
 use Rattle.rules.specs.Widths.{WidthList, unsound, sound, width_list}
 use Rattle.rules.specs.Answers.{stream_most, is_over}
-use Rattle.laws.proofs.Cases.{on, no as impossible}
+use Rattle.laws.proofs.Cases.{on}
 use Rattle.scan_letters.specs.declared.Parts.{Parts}
 use Rattle.scan_letters.specs.declared.Parts.TheVariants as P
 use Rattle.scan_letters.specs.Selected.{byte_of, parts_of}
@@ -29,7 +27,7 @@ use Rattle.read_model.specs.Environment.{scheme_at, paint_of}
 use Rattle.read_model.specs.Fits.{EnvFits}
 use Rattle.read_turn.specs.Ready.{Scratch}
 use Rattle.read_scratch.specs.Scratch.{Holding}
-use Rattle.read_setup.specs.Setup.{no_colour, start_env, begin_of, refused_at, StartedWith, StartedOr, Started, again_of, read_answer_of}
+use Rattle.read_setup.specs.Setup.{no_colour, start_env, begin_of, refused_at, StartedWith, Started, again_of, read_answer_of}
 
 -- ---- states
 

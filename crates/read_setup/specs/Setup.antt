@@ -1,9 +1,9 @@
 -- What a reading does around its passes: the state in which a pass begins, and the answer. In the code's own steps.
-use Rattle.std.specs.Prelude.{ℕ, ◌<◌, Bool, true, false, ◌||◌, List, [], ◌∷◌, ◌≡◌, ltb, eqb, length, get_or}
+use Rattle.std.specs.Prelude.{ℕ, ◌<◌, Bool, true, false, ◌||◌, List, [], ◌∷◌, ◌≡◌, ltb, eqb, length, get_or, if◌then◌else◌}
 use Rattle.rules.specs.declared.Colour.{Colour}
 use Rattle.rules.specs.declared.Reading.{Reading}
 use Rattle.rules.specs.declared.ReadAnswer.TheVariants as R
-use Rattle.rules.specs.Bytes.{if◌then◌else◌, origin}
+use Rattle.rules.specs.Bytes.{origin}
 use Rattle.rules.specs.State.{no_paint}
 use Rattle.rules.specs.Record.{shown, colour_of}
 use Rattle.rules.specs.Widths.{WidthList, unsound, sound, width_list}

@@ -1,4 +1,6 @@
 // What a reading does around its passes: the state in which each pass begins, and the answer at the end.
+#![tactic(auto)]
+
 ghost use Rattle.std.specs.Prelude.{◌≡◌};
 ghost use Rattle.rules.specs.Record.{colour_of};
 ghost use Rattle.read_model.specs.Environment.{paint_of};

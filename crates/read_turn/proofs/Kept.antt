@@ -1,22 +1,21 @@
 -- What a turn keeps, and that what it gives lies within the rows.
+use Rattle.std.specs.Prelude.{if◌then◌else◌}
 use Prim.Native.Nat.{ℕ, zero, suc, ◌+◌, ◌*◌, ◌-◌, ◌<◌, ◌≤◌}
 use native.Mathlib.Omega.{arith}
 use native.Mathlib.Decide.{ℕ_discrete}
 use mathlib.Core.Bool.{Bool, true, false, ◌&&◌}
 use mathlib.Core.List.{List, [], ◌∷◌}
-use mathlib.Core.Path.{◌≡◌, refl, sym, ap, subst, ◌∙◌}
-use lib.Dec.{leb, ltb, eqb}
+use mathlib.Core.Path.{◌≡◌, refl, sym, ◌∙◌}
+use lib.Dec.{ltb, eqb}
 use lib.ListN.{length, take, drop, set, get_or, length-set}
-use lib.Seq.{get_or-set_same, get_or-set_other, get_or-drop}
-use borrow.Author.Tests.{ltb-true, ltb-false, eqb-true, ne_eqb, lt-ltb}
-use Rattle.rules.specs.Bytes.{if◌then◌else◌, origin, is, is_white, one_line}
-use Rattle.rules.specs.Scan.{Scan, got, bad, command}
+use lib.Seq.{get_or-set_same, get_or-set_other}
+use borrow.Author.Tests.{ltb-true, ltb-false, eqb-true}
+use Rattle.rules.specs.Bytes.{origin, is, is_white, one_line}
 use Rattle.laws.proofs.Cases.{on, no as impossible, if_both, if_on, not_zero}
-use Rattle.laws_scan.proofs.Fair.{GoodScan, command_good}
 use Rattle.laws_scan.proofs.Walk.{comment_in}
 use Rattle.scan_command.specs.declared.Command.{Command}
 use Rattle.scan_command.specs.declared.Command.TheVariants as C
-use Rattle.scan_command.specs.View.{cmd_of, command_of, command_at}
+use Rattle.scan_command.specs.View.{command_at}
 use Rattle.read_model.specs.declared.Environment.{Environment}
 use Rattle.read_model.specs.declared.Word.{Word}
 use Rattle.read_model.specs.declared.Emitted.{Emitted}
@@ -26,10 +25,10 @@ use Rattle.read_model.specs.declared.State.{State}
 use Rattle.read_model.specs.declared.Effect.{Effect}
 use Rattle.read_model.specs.declared.Effect.TheVariants as F
 use Rattle.read_model.specs.declared.Turned.{Turned}
-use Rattle.read_model.specs.Environment.{refusing, doing, on_page, in_body, is_set, may_move, may_go, glyph_on, index_on, pair_on, to_on, by_on, font_on, draw_on, record_on, with_spot, with_gap, drawing_here, control_here}
-use Rattle.read_model.specs.Words.{all_wide, word_here, word_end, word_on, word_to}
-use Rattle.read_model.specs.Fits.{EnvFits, Ends, CommandIn, is_refused}
-use Rattle.read_model.specs.Turns.{mount_at, block_now, did_at, next_of, scratch_after, halted_at, halted, gone_to, filling, fills_records, fills_entries, emitted, point_of, done_of, skipped, turn_on, turn_of, scratch_of}
+use Rattle.read_model.specs.Environment.{refusing, on_page, in_body, is_set, may_move, may_go, index_on, to_on, by_on, control_here}
+use Rattle.read_model.specs.Words.{all_wide, word_here, word_end, word_on}
+use Rattle.read_model.specs.Fits.{EnvFits, CommandIn, is_refused}
+use Rattle.read_model.specs.Turns.{mount_at, block_now, did_at, next_of, scratch_after, halted_at, halted, gone_to, filling, fills_records, fills_entries, emitted, point_of, skipped, turn_on, turn_of, scratch_of}
 use Rattle.read_model.proofs.Fits.{command-fits, did_fits, later}
 use Rattle.read_environment.specs.Bounds.{Fits}
 use Rattle.read_word.specs.Bounds.{Small, WordFits}

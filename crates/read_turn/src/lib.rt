@@ -1,5 +1,7 @@
 // One turn of a pass: whitespace, a comment or one command; what it does to the state and what it gives to the rows. The
 // definitions stand in read_model's specs/.
+#![tactic(auto)]
+
 ghost use Rattle.std.specs.Prelude.{◌≡◌, ◌<◌, length};
 ghost use Rattle.read_model.specs.Fits.{CommandIn};
 ghost use Rattle.read_model.specs.Turns.{did_at, scratch_after, turn_on, turn_of, scratch_of};

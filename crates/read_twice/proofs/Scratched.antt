@@ -1,26 +1,20 @@
 -- With the scratch row of a sound list a pass begins as the rules do.
 use Prim.Native.Nat.{ℕ, zero, suc, ◌+◌, ◌*◌, ◌-◌, ◌<◌, ◌≤◌}
 use native.Mathlib.Omega.{arith}
-use mathlib.Core.Bool.{Bool, true, false}
-use mathlib.Core.List.{List, [], ◌∷◌}
+use mathlib.Core.List.{List, []}
 use mathlib.Core.Option.{Option, none, some}
-use mathlib.Core.Path.{◌≡◌, refl, sym, ap, ap₂, subst, ◌∙◌}
-use lib.Dec.{ltb, eqb}
+use mathlib.Core.Path.{◌≡◌, refl, sym, ap, subst, ◌∙◌}
 use lib.ListN.{length, take, drop, get_or, replicate, length-replicate, length-take, length-drop, get_or-replicate, get_or-eq_default}
 use lib.Seq.{get_or-take, get_or-drop}
-use Rattle.rules.specs.Bytes.{origin}
-use Rattle.rules.specs.Widths.{Font, Widths, sound, width_list, width_of, width_in}
+use Rattle.rules.specs.Widths.{Font, Widths, sound, width_list, width_of}
 use Rattle.rules.specs.State.{mounted_at}
-use Rattle.widths_table.specs.Slots.{slot_in}
-use Rattle.widths_table.specs.Table.{TableOf, NamesOf, slot_of, entry_for}
+use Rattle.widths_table.specs.Table.{slot_of, entry_for}
 use Rattle.widths_table.proofs.Lookups.{slot_names, slot_le, width_table}
 use Rattle.widths_table.proofs.Bounds.{sound_few}
-use Rattle.laws_read.proofs.Keeps.{Held}
 use Rattle.read_model.specs.Words.{entry_at}
-use Rattle.read_model.specs.Turns.{mount_at}
 use Rattle.read_model.proofs.Words.{entry_for as entry_of_width}
-use Rattle.read_model.proofs.Live.{Live, Mounted, mark_of}
-use Rattle.read_turn.specs.Ready.{find_in, Scratch}
+use Rattle.read_model.proofs.Live.{Live, Mounted}
+use Rattle.read_turn.specs.Ready.{find_in}
 use Rattle.read_setup.specs.Setup.{ScratchOf, Unmounted, start_env}
 
 -- no position holds a name

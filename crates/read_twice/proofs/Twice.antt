@@ -1,32 +1,29 @@
 -- Two passes answer what the rules answer: what each of them asks, and what is answered at the end.
-use Prim.Native.Nat.{ℕ, zero, suc, ◌+◌, ◌*◌, ◌-◌, ◌<◌, ◌≤◌}
+use Rattle.std.specs.Prelude.{if◌then◌else◌}
+use Prim.Native.Nat.{ℕ, ◌+◌, ◌<◌, ◌≤◌}
 use native.Mathlib.Omega.{arith}
 use mathlib.Core.Bool.{Bool, true, false, ◌||◌}
-use mathlib.Core.List.{List, [], ◌∷◌, ◌++◌, map}
+use mathlib.Core.List.{List, map}
 use mathlib.Core.Logic.{◌⊎◌, inl, inr}
-use mathlib.Core.Path.{◌≡◌, refl, sym, ap, ap₂, subst, ◌∙◌}
+use mathlib.Core.Path.{◌≡◌, refl, sym, ap, subst, ◌∙◌}
 use lib.Dec.{ltb, eqb}
-use lib.ListN.{length, take, drop, get_or}
-use borrow.Author.Tests.{eq-eqb, ne_eqb, ltb-false, eqb-true}
+use lib.ListN.{length}
+use borrow.Author.Tests.{ne_eqb, ltb-false}
 use Rattle.rules.specs.declared.Record.{Record}
 use Rattle.rules.specs.declared.Entry.{Entry}
-use Rattle.rules.specs.Bytes.{if◌then◌else◌, origin}
 use Rattle.rules.specs.Scan.{commands}
 use Rattle.rules.specs.State.{Env, start}
 use Rattle.rules.specs.Widths.{Widths, WidthList, unsound, sound, width_list}
 use Rattle.rules.specs.Record.{GlyphRow, ItemRow, Answer, refuse, answer, follow, record_of, entry_of}
-use Rattle.rules.specs.Answers.{stream_most, is_over, read, room_for, read_into, read_with, reading_of, records_over, entries_over}
+use Rattle.rules.specs.Answers.{stream_most, is_over, read, room_for, read_into, reading_of, records_over, entries_over}
 use Rattle.laws.proofs.Cases.{on, no as impossible, if_both, or_true}
-use Rattle.laws_scan.proofs.Walk.{from}
 use Rattle.widths_table.proofs.Bounds.{sound_unit, sound_few}
 use Rattle.read_model.specs.declared.State.{State}
-use Rattle.read_model.specs.Environment.{env_of}
 use Rattle.read_model.specs.Fits.{EnvFits}
-use Rattle.read_model.specs.Turns.{fills_records, fills_entries}
+use Rattle.read_model.specs.Turns.{fills_entries}
 use Rattle.read_model.specs.Passes.{ReadPass, read_pass_for, read_pass_of}
-use Rattle.read_model.proofs.Passes.{Going, Room, Refused, Accepted, Ended, pass_ends, judging_keeps, length-map}
+use Rattle.read_model.proofs.Passes.{Room, Refused, Accepted, Ended, pass_ends, judging_keeps, length-map}
 use Rattle.read_model.proofs.Rows.{over_is}
-use Rattle.read_model.proofs.Live.{Live}
 use Rattle.read_turn.specs.Ready.{find_in, Scratch, Ready}
 use Rattle.read_pass.specs.Ready.{PassReady}
 use Rattle.read_pass.proofs.Known.{Known, pass_known}

@@ -1,6 +1,6 @@
 -- What the helpers of the code answer.
-use Rattle.std.specs.Prelude.{ℕ, ◌+◌, ◌-◌, List}
-use Rattle.rules.specs.Bytes.{if◌then◌else◌, origin}
+use Rattle.std.specs.Prelude.{ℕ, ◌+◌, ◌-◌, List, if◌then◌else◌}
+use Rattle.rules.specs.Bytes.{origin}
 use Rattle.read_model.specs.declared.Environment.{Environment}
 use Rattle.read_model.specs.declared.Word.{Word}
 use Rattle.read_model.specs.Environment.{refusing}

@@ -1,5 +1,7 @@
 // A word's command: the widths of its bytes, where it ends, and its records one by one (document 01, "Commands of one letter"; refusals 7
 // to 10).
+#![tactic(auto)]
+
 ghost use Rattle.std.specs.Prelude.{◌≡◌, ◌+◌, ◌-◌, ◌*◌, ◌≤◌, ◌<◌, get_or};
 ghost use Rattle.rules.specs.Bytes.{origin};
 ghost use Rattle.read_model.specs.Environment.{on_page_or};
@@ -16,7 +18,7 @@ use read_model::{Did, Emitted, Environment, Word};
 use rules::Record;
 
 // What a word gives for its next byte: the record, and what is left of the word.
-#[derive(Drop)]
+#[derive(Clone, Copy)]
 pub struct Spelt {
     pub row: Record,
     pub next: Word,

@@ -1,5 +1,7 @@
 // The rewriter (document 01, "House spelling"): a stream with its width list, and a lent buffer. One pass judges the stream and
 // measures its spelling, and where nothing is against them a second one writes it.
+#![tactic(auto)]
+
 ghost use Rattle.rules.specs.Calls.{RespellCall};
 ghost use Rattle.read_turn.specs.Ready.{Scratch};
 

@@ -1,6 +1,8 @@
 // The arguments of a command in the house spelling (document 01, "House spelling": "one space before each argument, integers
 // shortest"), and lines of one letter and one number. A name is written from where it stands in the stream. What each function writes is
 // defined in respell_model.
+#![tactic(auto)]
+
 ghost use Rattle.std.specs.Prelude.{◌≡◌, ◌∷◌};
 ghost use Rattle.respell_model.specs.Sheet.{put_all};
 ghost use Rattle.respell_model.specs.Lines.{signed_arg, plain_arg, name_arg, args_from};

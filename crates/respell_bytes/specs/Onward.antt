@@ -1,6 +1,5 @@
 -- The place behind several bytes that are not written.
-use Rattle.std.specs.Prelude.{ℕ, ◌+◌, min, true, false, ltb}
-use Rattle.rules.specs.Bytes.{if◌then◌else◌}
+use Rattle.std.specs.Prelude.{ℕ, ◌+◌, min, ltb, if◌then◌else◌}
 
 -- n places on; it is counted no further than one past the longest spelling
 abbrev pub onward : ℕ → ℕ → ℕ

@@ -1,5 +1,7 @@
 // Bytes written to a lent buffer, one after the other. Behind the buffer nothing is written and the place is counted all the same, so
 // that one code measures a spelling and writes it. The count goes no further than one past the longest spelling.
+#![tactic(auto)]
+
 ghost use Rattle.std.specs.Prelude.{◌≡◌, ◌<◌};
 ghost use Rattle.rules.specs.House.{decimal};
 ghost use Rattle.respell_model.specs.Sheet.{further, put, put_all, small, signed_small};

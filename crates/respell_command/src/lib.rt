@@ -1,5 +1,7 @@
 // One command in the house spelling (document 01, "House spelling"): its line, `H` and `V` before it, or a word glyph by glyph. What is
 // written is defined in respell_model.
+#![tactic(auto)]
+
 ghost use Rattle.std.specs.Prelude.{◌≡◌, [], ◌∷◌, ◌++◌, ◌<◌, ◌≤◌, length};
 ghost use Rattle.read_model.specs.Turns.{did_at};
 ghost use Rattle.read_model.specs.Fits.{CommandIn};

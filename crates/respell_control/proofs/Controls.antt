@@ -1,4 +1,5 @@
 -- Controls, written: the answer of each return, in the form in which `search` applies it.
+use Rattle.std.specs.Prelude.{if◌then◌else◌}
 use Prim.Native.Nat.{ℕ, ◌+◌, ◌-◌, ◌≤◌, ◌<◌}
 use native.Mathlib.Omega.{arith}
 use mathlib.Core.Bool.{Bool, true, false, not}
@@ -11,7 +12,7 @@ use borrow.Enum.Known.{lives_at}
 use denote.Enum.Declared.{tag_of}
 use types.Run.{OneOf, miss}
 use lib.ListN.{get_or}
-use Rattle.rules.specs.Bytes.{if◌then◌else◌, is, is_space, is_not_white}
+use Rattle.rules.specs.Bytes.{is, is_space, is_not_white}
 use Rattle.name.specs.Part.{part_of}
 use Rattle.scan_command.specs.declared.Command.{Command}
 use Rattle.scan_command.specs.declared.Command.TheVariants as C

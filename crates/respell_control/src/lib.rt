@@ -1,7 +1,10 @@
 // Controls in the house spelling (document 01, "House spelling", "Controls"): `x` and its letter, with names and texts written from
 // where they stand in the stream.
+#![tactic(auto)]
+
 ghost use Rattle.std.specs.Prelude.{◌≡◌, [], ◌∷◌, ◌++◌, ◌<◌, length};
-ghost use Rattle.rules.specs.Bytes.{if◌then◌else◌, is};
+ghost use Rattle.std.specs.Prelude.{if◌then◌else◌};
+ghost use Rattle.rules.specs.Bytes.{is};
 ghost use Rattle.scan_letters.specs.Selected.{control_of};
 ghost use Rattle.respell_model.specs.Sheet.{put_all};
 ghost use Rattle.respell_model.specs.Lines.{plain_arg, name_arg, args_from, control_count, behind_word, text_at, raw_arg, line_of};

@@ -1,5 +1,5 @@
 -- Drawings and colours, written: the answer of each return, in the form in which `search` applies it.
-use Prim.Native.Nat.{ℕ, ◌+◌, ◌*◌, ◌≤◌, ◌<◌}
+use Prim.Native.Nat.{ℕ, ◌+◌, ◌≤◌, ◌<◌}
 use native.Mathlib.Omega.{arith}
 use mathlib.Core.List.{List, [], ◌∷◌, ◌++◌}
 use mathlib.Core.Logic.{inl, inr}
@@ -23,7 +23,7 @@ use Rattle.scan_lex.specs.At.{run_end}
 use Rattle.scan_lex.proofs.Runs.{run-within}
 use Rattle.read_model.specs.Fits.{CommandIn}
 use Rattle.respell_model.specs.Sheet.{put, put_all}
-use Rattle.respell_model.specs.Lines.{plain_arg, args_from, three_args, part_args, draw_count, behind_letter, line_of}
+use Rattle.respell_model.specs.Lines.{plain_arg, args_from, three_args, part_args, draw_count, behind_letter}
 use Rattle.respell_bytes.proofs.Putting.{sheet, put-kept, all_kept}
 use Rattle.respell_arguments.proofs.Behind.{behind_all, put_then, put-nothing, by_line}
 use Rattle.respell_drawing.specs.Drawing.{Drawing, shape, gray, fill}

@@ -1,4 +1,6 @@
 // Drawings in the house spelling (document 01, "House spelling", "Drawing"), and the colours that `m` and `DF` set.
+#![tactic(auto)]
+
 ghost use Rattle.std.specs.Prelude.{◌≡◌, ◌∷◌, ◌<◌, ◌≤◌, length};
 ghost use Rattle.read_model.specs.Fits.{CommandIn};
 ghost use Rattle.respell_model.specs.Sheet.{put_all};

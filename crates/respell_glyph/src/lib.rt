@@ -1,4 +1,6 @@
 // A glyph in the house spelling (document 01, "House spelling"): its line, and `H` and `V` before it.
+#![tactic(auto)]
+
 ghost use Rattle.std.specs.Prelude.{◌≡◌, ◌∷◌};
 ghost use Rattle.respell_model.specs.Sheet.{put_all};
 ghost use Rattle.respell_model.specs.Lines.{name_arg, glyph_letter_of};

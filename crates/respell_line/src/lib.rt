@@ -1,5 +1,7 @@
 // The line of one command in the house spelling (document 01, "House spelling"), made from the command and the stream, and how it is
 // written. What is written is defined in respell_model.
+#![tactic(auto)]
+
 ghost use Rattle.std.specs.Prelude.{◌≡◌, [], ◌∷◌, ◌++◌, ◌<◌, ◌≤◌, length};
 ghost use Rattle.read_model.specs.Fits.{CommandIn};
 ghost use Rattle.respell_model.specs.Sheet.{put_all};

@@ -1,4 +1,6 @@
 // The rewriter's first pass, which judges a stream and measures its spelling. What it writes nobody reads.
+#![tactic(auto)]
+
 ghost use Rattle.read_turn.specs.Ready.{Scratch};
 ghost use Rattle.respell_twice.specs.Respell.{Measured};
 

@@ -1,4 +1,5 @@
 -- What is written for a command is the house spelling of its acts, and behind it a reader is where the rules say.
+use Rattle.std.specs.Prelude.{if◌then◌else◌}
 use Prim.Native.Nat.{ℕ, zero, suc, ◌+◌, ◌*◌, ◌-◌, ◌<◌, ◌≤◌}
 use native.Mathlib.Omega.{arith}
 use mathlib.Core.Bool.{Bool, true, false}
@@ -8,7 +9,7 @@ use mathlib.Core.Path.{◌≡◌, refl, sym, ap, ap₂, ◌∙◌}
 use lib.Dec.{leb, ltb, eqb}
 use lib.ListN.{length, take, drop, get_or}
 use borrow.Author.Tests.{ltb-true, leb-true, le-leb}
-use Rattle.rules.specs.Bytes.{if◌then◌else◌, origin, most, near}
+use Rattle.rules.specs.Bytes.{origin, most, near}
 use Rattle.rules.specs.Act.{Axis, across, down, line, arc, circle, solid_circle, ellipse, solid_ellipse, polygon, solid_polygon, spline, thickness, gray_fill, colour_fill, Act, glyph, index, to, by, page, font, size, colour, break, space, draw, device, resolution, init, file, mount, plain, raw, stop, Cmd, just, word, pair}
 use Rattle.rules.specs.Scan.{name_in}
 use Rattle.rules.specs.Widths.{Widths, Font, width_of, advance}

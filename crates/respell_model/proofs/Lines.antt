@@ -1,4 +1,5 @@
 -- The line that the code makes of a scanned command is the house spelling of its act.
+use Rattle.std.specs.Prelude.{if◌then◌else◌}
 use Prim.Native.Nat.{ℕ, zero, suc, ◌+◌, ◌*◌, ◌-◌, ◌≤◌, ◌<◌}
 use native.Mathlib.Omega.{arith}
 use mathlib.Core.Bool.{true, false, not, ◌&&◌}
@@ -9,7 +10,7 @@ use borrow.Author.Tests.{lt-ltb, le-ltb, ne_eqb, eqb-true}
 use lib.Dec.{ltb, eqb}
 use lib.ListN.{length, take, drop, get_or, length-map}
 use lib.Seq.{drop-drop, get_or-drop}
-use Rattle.rules.specs.Bytes.{if◌then◌else◌, bytes, is, is_space, is_white, is_not_white, is_digit, span, spacer, unspaced, string, Num, Int, no_int, int, integer, most, origin, moved, within, near, Nums, short, nums, with_num, integers, many_integers, perhaps_integer}
+use Rattle.rules.specs.Bytes.{bytes, is, is_space, is_white, is_not_white, is_digit, span, spacer, unspaced, string, Num, Int, no_int, int, integer, most, origin, moved, within, near, Nums, short, nums, with_num, integers, many_integers, perhaps_integer}
 use Rattle.rules.specs.Act.{across, down, Scheme, cmy, default, gray, cmyk, rgb, Shape, line, arc, circle, solid_circle, ellipse, solid_ellipse, polygon, solid_polygon, spline, thickness, gray_fill, colour_fill, Plain, pause, trailer, height, slant, underline, Act, glyph, index, to, by, page, font, size, colour, break, space, draw, device, resolution, init, file, mount, plain, raw, stop, Cmd, just, word, pair}
 use Rattle.rules.specs.Letters.{Draft, fault, draft, with_one, with_all, ignoring, one_byte, named, number_named, followed_by_white, with_dummy, second_digit, scheme_of, components, in_scheme, coloured}
 use Rattle.rules.specs.Drawing.{line_ends, closed, shape_of, Form, exactly, dummied, paired, form_of, is_paired, in_pairs, dummy_behind, drawn, in_shape, drawing, pairwise}

@@ -1,16 +1,16 @@
 -- A pass of the rewriter goes as the reader's does, and writes the house spelling of what it reads.
+use Rattle.std.specs.Prelude.{if◌then◌else◌}
 use Prim.Native.Nat.{ℕ, zero, suc, ◌+◌, ◌<◌, ◌≤◌}
 use native.Mathlib.Omega.{arith}
 use mathlib.Core.Bool.{true, false}
-use mathlib.Core.List.{List, [], ◌∷◌, ◌++◌}
-use mathlib.Core.Logic.{inl, inr}
+use mathlib.Core.List.{List, [], ◌++◌}
 use mathlib.Core.Path.{◌≡◌, refl, sym, ap, ◌∙◌}
 use lib.Dec.{eqb}
 use lib.ListN.{length, drop, get_or}
 use borrow.Author.Tests.{eq-eqb, ne_eqb}
 use Rattle.rules.specs.declared.Record.{Record}
 use Rattle.rules.specs.declared.Entry.{Entry}
-use Rattle.rules.specs.Bytes.{if◌then◌else◌, is, is_white, one_line}
+use Rattle.rules.specs.Bytes.{is, is_white, one_line}
 use Rattle.rules.specs.Act.{Cmd, just, word, pair}
 use Rattle.rules.specs.Scan.{Scan, got, bad, command, bare}
 use Rattle.rules.specs.Widths.{Widths}

@@ -1,7 +1,7 @@
 -- What the house spelling has for one command, `H` and `V` before it included, and where a reader of the spelling is behind it.
 -- In the code's own steps.
-use Rattle.std.specs.Prelude.{ℕ, zero, suc, ◌+◌, ◌*◌, ◌-◌, Bool, true, false, List, [], ◌∷◌, ◌++◌, eqb, get_or}
-use Rattle.rules.specs.Bytes.{if◌then◌else◌, origin}
+use Rattle.std.specs.Prelude.{ℕ, zero, suc, ◌-◌, List, [], ◌∷◌, ◌++◌, eqb, get_or, if◌then◌else◌}
+use Rattle.rules.specs.Bytes.{origin}
 use Rattle.scan_command.specs.declared.Command.{Command}
 use Rattle.scan_command.specs.declared.Command.TheVariants as C
 use Rattle.read_model.specs.declared.Environment.{Environment}

@@ -1,6 +1,6 @@
 -- The line of one command in the house spelling, as the code makes it from the command and the stream. In the code's own steps.
-use Rattle.std.specs.Prelude.{ℕ, zero, suc, ◌+◌, ◌*◌, ◌-◌, Bool, true, false, ◌&&◌, not, List, [], ◌∷◌, ◌++◌, ltb, eqb, length, take, drop, get_or}
-use Rattle.rules.specs.Bytes.{if◌then◌else◌, bytes, is, is_space, is_not_white}
+use Rattle.std.specs.Prelude.{ℕ, zero, suc, ◌+◌, ◌*◌, ◌-◌, ◌&&◌, not, List, [], ◌∷◌, ◌++◌, ltb, eqb, take, drop, get_or, if◌then◌else◌}
+use Rattle.rules.specs.Bytes.{bytes, is, is_space, is_not_white}
 use Rattle.rules.specs.House.{decimal}
 use Rattle.scan_command.specs.declared.Command.{Command}
 use Rattle.scan_command.specs.declared.Command.TheVariants as C

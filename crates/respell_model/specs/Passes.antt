@@ -1,6 +1,6 @@
 -- One turn of the rewriter, and a whole pass, with what it leaves in the buffer, in the code's own steps.
-use Rattle.std.specs.Prelude.{ℕ, zero, suc, Bool, true, false, List, [], ◌∷◌, eqb, get_or}
-use Rattle.rules.specs.Bytes.{if◌then◌else◌, is, is_white}
+use Rattle.std.specs.Prelude.{ℕ, zero, suc, List, eqb, get_or, if◌then◌else◌}
+use Rattle.rules.specs.Bytes.{is, is_white}
 use Rattle.scan_command.specs.declared.Command.{Command}
 use Rattle.scan_command.specs.View.{command_at}
 use Rattle.read_model.specs.declared.State.{State}

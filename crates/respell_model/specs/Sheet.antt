@@ -1,6 +1,6 @@
 -- Bytes written to a lent buffer, one after the other. In the code's own steps.
-use Rattle.std.specs.Prelude.{ℕ, ◌+◌, ◌-◌, Bool, true, false, List, [], ◌∷◌, ◌++◌, ltb, set}
-use Rattle.rules.specs.Bytes.{if◌then◌else◌, origin}
+use Rattle.std.specs.Prelude.{ℕ, ◌+◌, ◌-◌, List, [], ◌∷◌, ltb, set, if◌then◌else◌}
+use Rattle.rules.specs.Bytes.{origin}
 use Rattle.rules.specs.House.{decimal}
 
 -- the bytes of the buffer, and the place of the next byte

@@ -32,11 +32,9 @@ pub record Known (list s : List ℕ) (st₀ : State) (m₀ : Mark) (ws₀ o₀ :
   pub kept : drop 256 ws ≡ drop 256 ws₀
   pub fonts : st.fonts ≡ st₀.fonts
   pub ready : 0 < st.left → Ready (length s) st
-  pub row_size : length ws ≡ length ws₀
-  pub out_size : length o ≡ length o₀
 
 pub known_first : (list s : List ℕ) (st : State) (m : Mark) (ws o : List ℕ) → PassReady (length s) ws 0 0 st → Known list s st m ws o st m ws o
-known_first list s st m ws o h = record { turns = st.left; few = omega arith; runs = refl; scratch = h.scratch; kept = refl; fonts = refl; ready = h.ready; row_size = refl; out_size = refl }
+known_first list s st m ws o h = record { turns = st.left; few = omega arith; runs = refl; scratch = h.scratch; kept = refl; fonts = refl; ready = h.ready }
 
 -- a turn takes at least one byte
 pub turn_less : (find : List ℕ → ℕ) (s : List ℕ) (st : State) (m : Mark) (ws o : List ℕ) (x : State) (n : Mark) (t q : List ℕ) → Scratch ws → Ready (length s) st
@@ -62,10 +60,9 @@ module _ (list s : List ℕ) (st₀ : State) (m₀ : Mark) (ws₀ o₀ : List �
     unfolding respell_pass_for
     one_more k = rw (steps, ne_eqb st.left 0 (λ z. omega arith))
 
-    goes_on : (k : ℕ) → st.left ≤ k → respell_pass_for k (finding list st₀ ws₀) s (standing st m ws o) ≡ respell_pass_of (finding list st₀ ws₀) s (standing st₀ m₀ ws₀ o₀) → length t ≡ length ws → length q ≡ length o
-        → Known list s st₀ m₀ ws₀ o₀ x n t q
-    goes_on zero f r i j = absurd (omega arith)
-    goes_on (suc k) f r i j =
+    goes_on : (k : ℕ) → st.left ≤ k → respell_pass_for k (finding list st₀ ws₀) s (standing st m ws o) ≡ respell_pass_of (finding list st₀ ws₀) s (standing st₀ m₀ ws₀ o₀) → Known list s st₀ m₀ ws₀ o₀ x n t q
+    goes_on zero f r = absurd (omega arith)
+    goes_on (suc k) f r =
         let state : x ≡ (turn_of s ws st).state = ap (λ (p : RespellPass). p.state) e in
         let row : t ≡ scratch_of (find_in list st.fonts ws) s ws st = ap (λ (p : RespellPass). p.scratch) e in
         record {
@@ -76,9 +73,7 @@ module _ (list s : List ℕ) (st₀ : State) (m₀ : Mark) (ws₀ o₀ : List �
           kept = rw row (remounted.kept ∙ v.kept);
           fonts = rw state (well.fonts ∙ v.fonts);
           ready = rw state well.ready;
-          row_size = i ∙ v.row_size;
-          out_size = j ∙ v.out_size;
         }
 
-    pub known_next : length t ≡ length ws → length q ≡ length o → Known list s st₀ m₀ ws₀ o₀ x n t q
-    known_next i j = goes_on v.turns v.few v.runs i j
+    pub known_next : Known list s st₀ m₀ ws₀ o₀ x n t q
+    known_next = goes_on v.turns v.few v.runs

@@ -9,14 +9,10 @@ use Rattle.scan_lex.specs.At.{blank_at}
 use Rattle.scan_lex.proofs.Texts.{blank_by, blank_none, blank-within}
 use Rattle.scan_command.specs.View.{command_at}
 use Rattle.read_model.specs.declared.State.{State}
-use Rattle.read_model.specs.declared.Turned.{Turned}
 use Rattle.read_model.specs.Turns.{scratch_after, skipped, turn_on, turn_of, scratch_of}
 use Rattle.read_turn.proofs.Turning.{here_at}
 use Rattle.respell_model.specs.declared.Mark.{Mark}
 use Rattle.respell_model.specs.Passes.{sheet_on, mark_on, bytes_of, mark_of, respell_step_of}
-
-pub skipped_state : (n next : ℕ) (st : State) (x : Turned) → x ≡ skipped n st next → x.state ≡ (skipped n st next).state
-skipped_state n next st x e = rw e
 
 module _ (find : List ℕ → ℕ) (s ws : List ℕ) (st : State) (o : List ℕ) (m : Mark) (at next : ℕ) (i : at ≡ st.at) (p : next ≡ blank_at s at) (x : State) (n : Mark) where
   -- the place behind the blanks, of the state's place
@@ -36,6 +32,4 @@ module _ (find : List ℕ → ℕ) (s ws : List ℕ) (st : State) (o : List ℕ)
       let b = blank_none s st.at next blank_here (omega arith) in
       rw (b.0, b.1, l, j, g, f)
 
-pub ruleset skipping = (skipped_state, rules)
-
-pub ruleset stepping = (here_at, blank-within, blank_step, command_step, rules)
+pub ruleset stepping = (here_at, blank-within, rules)

@@ -1,4 +1,6 @@
 // One pass of the rewriter over the stream, run twice: it measures the spelling, or writes it.
+#![tactic(auto)]
+
 ghost use Rattle.std.specs.Prelude.{◌≡◌, ◌≤◌, length};
 ghost use Rattle.read_model.specs.Turns.{skipped as skipped_to};
 ghost use Rattle.read_turn.specs.Ready.{find_in, Scratch, Ready};
@@ -12,7 +14,7 @@ use scan_reader::Reader;
 // Whitespace and comments leave the writing as it is.
 fn skipped(n: usize, st: State, next: usize, mark: Mark) -> Writing
     requires { next ≤ n }
-    ensures { (result.state ≡ (skippedTo n st next).state) × (result.mark ≡ mark) }
+    ensures { (result.state ≡ (skipped_to n st next).state) × (result.mark ≡ mark) }
 {
     let x = read_count::skipped(n, st, next);
     let state = x.state;

@@ -1,4 +1,6 @@
 // Around the passes of the rewriter: where the writing begins, whether a second pass is to write, and the answer.
+#![tactic(auto)]
+
 ghost use Rattle.std.specs.Prelude.{◌≡◌};
 ghost use Rattle.read_turn.specs.Ready.{Scratch};
 ghost use Rattle.read_setup.specs.Setup.{Unmounted};

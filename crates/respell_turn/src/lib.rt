@@ -1,4 +1,6 @@
 // One command of the rewriter: its effect, as the reader has it, and what is written for it.
+#![tactic(auto)]
+
 ghost use Rattle.std.specs.Prelude.{◌≡◌, length};
 ghost use Rattle.read_model.specs.Turns.{scratch_after, turn_on};
 ghost use Rattle.read_model.specs.Fits.{CommandIn};

@@ -1,4 +1,5 @@
 -- Two passes of the rewriter answer what the rules answer: what the second one asks, and what is answered at the end.
+use Rattle.std.specs.Prelude.{if◌then◌else◌}
 use Prim.Native.Nat.{ℕ, ◌<◌, ◌≤◌, min}
 use native.Mathlib.Omega.{arith}
 use mathlib.Core.Bool.{true, false}
@@ -9,7 +10,6 @@ use lib.Dec.{eqb}
 use lib.ListN.{length}
 use borrow.Author.Tests.{ne_eqb, lt-ltb, le-ltb, ltb-true, ltb-false}
 use Rattle.rules.specs.declared.Respelling.TheVariants as S
-use Rattle.rules.specs.Bytes.{if◌then◌else◌}
 use Rattle.rules.specs.State.{Env}
 use Rattle.rules.specs.Widths.{Widths, sound, width_list}
 use Rattle.rules.specs.Record.{GlyphRow, ItemRow, Answer, refuse, answer, over}

@@ -1,9 +1,9 @@
 -- What a rewriting does around its passes: where the writing begins, whether the spelling has room, the state in which the second
 -- pass begins, the answer. In the code's own steps.
-use Rattle.std.specs.Prelude.{ℕ, Bool, ◌||◌, ◌&&◌, List, ◌≡◌, ltb, eqb}
+use Rattle.std.specs.Prelude.{ℕ, Bool, ◌||◌, ◌&&◌, List, ◌≡◌, ltb, eqb, if◌then◌else◌}
 use Rattle.rules.specs.declared.Respelling.{Respelling}
 use Rattle.rules.specs.declared.Respelling.TheVariants as S
-use Rattle.rules.specs.Bytes.{if◌then◌else◌, origin}
+use Rattle.rules.specs.Bytes.{origin}
 use Rattle.rules.specs.Answers.{stream_most}
 use Rattle.read_model.specs.declared.State.{State}
 use Rattle.read_turn.specs.Ready.{find_in}

@@ -1,4 +1,6 @@
 // A word in the house spelling (document 01, "House spelling"): glyph by glyph, each with `H` and `V` before it where they differ.
+#![tactic(auto)]
+
 ghost use Rattle.std.specs.Prelude.{◌≡◌, [], ◌∷◌, ◌++◌, ◌-◌, ◌<◌, ◌≤◌};
 ghost use Rattle.read_model.specs.Words.{word_end};
 ghost use Rattle.read_environment.specs.Bounds.{Fits};

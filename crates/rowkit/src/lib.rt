@@ -1,3 +1,20 @@
-// Laws for rows of structs, over any struct of plain data: setters and getters (proofs/Access.antt), the calls of setters and of
-// functions that change no row (Rows.antt), loops (Turns.antt), rows that a function makes itself (Local.antt), and the calls of
-// functions to which one or two rows are lent (Lends.antt). There is no code here.
+// Rows of structs of plain data: a setter and a getter of one place, each proved once for every type that is copied.
+#![tactic(auto)]
+
+ghost use Rattle.std.specs.Prelude.{◌≡◌, ◌<◌, length, set, get_or};
+
+#[inline(always)]
+pub fn put<T: Copy>(row: &mut [T], i: usize, x: T)
+    requires { i < length row.old }
+    ensures { row.new ≡ set row.old i x }
+{
+    row[i] = x;
+}
+
+#[inline(always)]
+pub fn get<T: Copy>(row: &[T], i: usize) -> T
+    requires { i < length row.now }
+    ensures { (d : T) → result ≡ get_or row.now i d }
+{
+    row[i]
+}

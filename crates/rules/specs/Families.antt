@@ -1,7 +1,7 @@
 -- Request 2026-01, "Letters under all their names": the family list, and the family of a name.
-use Rattle.std.specs.Prelude.{ℕ, ◌+◌, Bool, true, false, ◌&&◌, ◌||◌, List, [], ◌∷◌, ◌++◌, ltb, length}
+use Rattle.std.specs.Prelude.{ℕ, ◌+◌, Bool, true, false, ◌&&◌, ◌||◌, List, [], ◌∷◌, ◌++◌, ltb, length, if◌then◌else◌}
 use Rattle.std.proofs.Math.Option.{Option, none, some}
-use Rattle.rules.specs.Bytes.{if◌then◌else◌, bytes, same}
+use Rattle.rules.specs.Bytes.{bytes, same}
 use Rattle.rules.specs.Widths.{Line, lines_from, behind, is_list_name}
 
 -- ---- families

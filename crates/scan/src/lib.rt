@@ -1,4 +1,6 @@
 // One command at a place of a stream: the letter decides (document 01, "Commands of one letter").
+#![tactic(auto)]
+
 ghost use Rattle.std.specs.Prelude.{◌≡◌, ◌<◌, length};
 ghost use Rattle.scan_command.specs.View.{command_at};
 

@@ -1,4 +1,5 @@
 -- As many integers as are present, in pairs: what is summed from place to place is what the whole list says.
+use Rattle.std.specs.Prelude.{if◌then◌else◌}
 use Prim.Native.Nat.{ℕ, zero, suc, ◌+◌, ◌-◌, ◌*◌, ◌≤◌, ◌<◌}
 use native.Mathlib.Omega.{arith}
 use native.Mathlib.Nat.{add-zero, zero-add}
@@ -11,7 +12,7 @@ use lib.Dec.{leb, ltb}
 use lib.ListN.{length, drop, get_or, length-drop, drop_of_length-le}
 use mir.Syntax.{w64}
 use mir.Val.{Fits}
-use Rattle.rules.specs.Bytes.{if◌then◌else◌, is, span, is_space, Num, Int, no_int, int, integer, moved, near, Nums, short, nums, with_num, integers, is_present, many_integers}
+use Rattle.rules.specs.Bytes.{is, span, is_space, Num, Int, no_int, int, integer, moved, near, Nums, short, nums, with_num, integers, is_present, many_integers}
 use Rattle.rules.specs.Drawing.{is_paired, in_pairs, Way, farther, pairwise}
 use Rattle.rules.specs.Scan.{up_to, outside}
 use Rattle.laws.proofs.Cases.{on, no, if_on, and_right}

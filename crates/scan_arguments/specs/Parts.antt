@@ -1,6 +1,6 @@
 -- What the parts of the arguments' scanners answer: whether an integer is present, sums of pairs.
-use Rattle.std.specs.Prelude.{ℕ, ◌+◌, ◌*◌, ◌≤◌, Bool, List, eqb, ltb, drop}
-use Rattle.rules.specs.Bytes.{if◌then◌else◌, unspaced, near, is_present}
+use Rattle.std.specs.Prelude.{ℕ, ◌+◌, ◌*◌, ◌≤◌, Bool, List, eqb, ltb, drop, if◌then◌else◌}
+use Rattle.rules.specs.Bytes.{unspaced, near, is_present}
 use Rattle.scan_arguments.specs.declared.Sums.{Sums}
 use Rattle.scan_arguments.specs.declared.Sums.TheVariants.{Within, Outside}
 use Rattle.scan_arguments.specs.declared.Polygon.{Polygon}

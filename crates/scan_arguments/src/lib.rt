@@ -1,18 +1,20 @@
 // The integers that are a command's arguments, each perhaps behind a spacer: one to four, one that may be absent, as many as are
 // present (document 01, "Bytes, spaces, numbers", "Drawing"). Each number is handed on with the place where it begins.
+#![tactic(auto)]
+
 ghost use Rattle.std.specs.Prelude.{◌≡◌, ◌*◌, ◌≤◌, ◌<◌};
 ghost use Rattle.scan_arguments.specs.At.{one_at, two_at, three_at, four_at, perhaps_at, polygon_at};
 ghost use Rattle.scan_arguments.specs.Parts.{present_at, pair_onto, added_to, ended_at, Fine};
 
 use scan_integer::Number;
 
-#[derive(Drop)]
+#[derive(Clone, Copy)]
 pub enum One {
     Short,
     Read { a: u32, pa: usize, next: usize },
 }
 
-#[derive(Drop)]
+#[derive(Clone, Copy)]
 pub enum Two {
     Short,
     Read {
@@ -24,7 +26,7 @@ pub enum Two {
     },
 }
 
-#[derive(Drop)]
+#[derive(Clone, Copy)]
 pub enum Three {
     Short,
     Read {
@@ -38,7 +40,7 @@ pub enum Three {
     },
 }
 
-#[derive(Drop)]
+#[derive(Clone, Copy)]
 pub enum Four {
     Short,
     Read {
@@ -54,14 +56,14 @@ pub enum Four {
     },
 }
 
-#[derive(Drop)]
+#[derive(Clone, Copy)]
 pub enum Perhaps {
     Short,
     Absent { next: usize },
     Read { a: u32, pa: usize, next: usize },
 }
 
-#[derive(Drop)]
+#[derive(Clone, Copy)]
 pub enum Polygon {
     Short,
     Over {
@@ -179,7 +181,7 @@ pub fn perhaps_at(s: &[u8], at: usize) -> Perhaps
 }
 
 // The sums of the pairs so far, all within their limits; or where the first number outside begins.
-#[derive(Drop)]
+#[derive(Clone, Copy)]
 enum Sums {
     Within { dh: u64, dv: u64, terms: u64 },
     Outside { place: usize },

@@ -1,5 +1,6 @@
 -- A command of one letter and one integer, from the scanner's answer; and the answer of each return, in the form in which `search`
 -- applies it.
+use Rattle.std.specs.Prelude.{if◌then◌else◌}
 use Prim.Native.Nat.{ℕ, ◌+◌, ◌≤◌, ◌<◌}
 use native.Mathlib.Omega.{arith}
 use native.Mathlib.Nat.{add-zero}
@@ -10,7 +11,7 @@ use borrow.Author.Rules.{rules}
 use borrow.Author.Tests.{leb-true}
 use lib.Dec.{leb}
 use lib.ListN.{drop}
-use Rattle.rules.specs.Bytes.{if◌then◌else◌, within, moved, Nums, integers}
+use Rattle.rules.specs.Bytes.{within, moved, Nums, integers}
 use Rattle.rules.specs.Act.{Act, just}
 use Rattle.rules.specs.Letters.{draft, with_one}
 use Rattle.rules.specs.Scan.{letter, limits, name_of}

@@ -1,6 +1,6 @@
 -- What closes a command.
-use Rattle.std.specs.Prelude.{ℕ, ◌+◌, Bool, List}
-use Rattle.rules.specs.Bytes.{if◌then◌else◌, within}
+use Rattle.std.specs.Prelude.{ℕ, ◌+◌, Bool, List, if◌then◌else◌}
+use Rattle.rules.specs.Bytes.{within}
 use Rattle.scan_command.specs.declared.Command.{Command}
 use Rattle.scan_command.specs.declared.Command.TheVariants.{Refused}
 use Rattle.scan_lex.specs.At.{breaks_at}

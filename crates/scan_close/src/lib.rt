@@ -1,5 +1,7 @@
 // What closes a command: an argument is within its limit, the line breaks behind the last one (document 01, "Refusals": 5 and 6), and no
 // byte of its name is barred (2026-06: 16).
+#![tactic(auto)]
+
 ghost use Rattle.std.specs.Prelude.{◌≡◌, ◌<◌, length};
 ghost use Rattle.scan_close.specs.Closed.{within_or, clear_or, ended_at, argument_at};
 
@@ -7,7 +9,7 @@ use scan_arguments::One;
 use scan_command::Command;
 
 // One integer: within its limit, or refused.
-#[derive(Drop)]
+#[derive(Clone, Copy)]
 pub enum Argument {
     Good { number: u32, next: usize },
     Wrong { refusal: u32, place: usize },

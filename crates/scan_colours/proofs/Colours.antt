@@ -11,7 +11,7 @@ use borrow.Author.Tests.{eqb-true}
 use lib.Dec.{eqb}
 use lib.ListN.{length, drop, get_or, length-map, drop_of_length-le}
 use lib.Seq.{drop-drop}
-use Rattle.rules.specs.Bytes.{if◌then◌else◌, is, is_space, origin, moved, Nums, short, nums, integers}
+use Rattle.rules.specs.Bytes.{is, is_space, origin, moved, Nums, short, nums, integers}
 use Rattle.rules.specs.Act.{Scheme, cmy, default, gray, cmyk, rgb, colour_fill, colour, draw}
 use Rattle.rules.specs.Letters.{with_all, scheme_of, components, in_scheme, coloured}
 use Rattle.rules.specs.Drawing.{line_ends, closed}

@@ -1,4 +1,5 @@
 -- Limits judged on the numbers as they are handed on, cut at 200,000,000, and on the numbers themselves.
+use Rattle.std.specs.Prelude.{if◌then◌else◌}
 use Prim.Native.Nat.{ℕ, zero, suc, ◌≤◌, ◌<◌}
 use native.Mathlib.Omega.{arith}
 use mathlib.Core.Bool.{Bool, true, false}
@@ -6,7 +7,7 @@ use mathlib.Core.List.{List, [], ◌∷◌, map}
 use mathlib.Core.Option.{Option, none, some}
 use mathlib.Core.Path.{◌≡◌, refl, ap₂}
 use lib.ListN.{length}
-use Rattle.rules.specs.Bytes.{if◌then◌else◌, unspaced, Num, Int, no_int, int, integer, within, Nums, short, nums, with_num, after_int, integers}
+use Rattle.rules.specs.Bytes.{unspaced, Num, Int, no_int, int, integer, within, Nums, short, nums, with_num, after_int, integers}
 use Rattle.rules.specs.Scan.{outside}
 use Rattle.scan_integer.specs.At.{cut}
 use Rattle.scan_close.proofs.Places.{within-cut, within_uncut}

@@ -1,7 +1,7 @@
 -- What the parts of the colours' scanners answer, at places of the whole list.
-use Rattle.std.specs.Prelude.{ℕ, ◌+◌, ◌-◌, List, [], ◌∷◌, map, drop}
+use Rattle.std.specs.Prelude.{ℕ, ◌+◌, ◌-◌, List, [], ◌∷◌, map, drop, if◌then◌else◌}
 use Rattle.std.proofs.Math.Option.{Option, none, some}
-use Rattle.rules.specs.Bytes.{if◌then◌else◌, origin, moved, Nums, short, nums, integers}
+use Rattle.rules.specs.Bytes.{origin, moved, Nums, short, nums, integers}
 use Rattle.rules.specs.Act.{Scheme}
 use Rattle.rules.specs.Letters.{scheme_of, components}
 use Rattle.rules.specs.Record.{scheme_letter}

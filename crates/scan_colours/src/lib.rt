@@ -1,5 +1,7 @@
 // Colours: the commands `m` and `DF`, a scheme's letter and its components (document 01, "Commands of one letter", "Drawing"). Refusals at
 // one command are found in the order 3, 4, 5, 6.
+#![tactic(auto)]
+
 ghost use Rattle.std.specs.Prelude.{◌≡◌, ◌<◌, length};
 ghost use Rattle.rules.specs.Scan.{is_component};
 ghost use Rattle.scan_command.specs.View.{letter_at};
@@ -11,7 +13,7 @@ use scan_letters::Parts;
 
 // What stands where a scheme's letter and its components are due: the number of a refusal; where the first component outside its
 // limit begins; or the letter and the components, those that are not used 0. `next` is the place behind the last component.
-#[derive(Drop)]
+#[derive(Clone, Copy)]
 enum Components {
     Fault {
         number: u32,

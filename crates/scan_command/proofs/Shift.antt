@@ -1,12 +1,12 @@
 -- Integers read from a command's place on, and from the start of the stream on: the places differ by the command's place, and
 -- nothing else.
+use Rattle.std.specs.Prelude.{if◌then◌else◌}
 use Prim.Native.Nat.{ℕ, zero, suc, ◌+◌}
 use native.Mathlib.Omega.{arith}
-use mathlib.Core.Bool.{Bool, true, false}
-use mathlib.Core.List.{List, [], ◌∷◌, map}
-use mathlib.Core.Path.{◌≡◌, refl, sym, ap, ap₂, ◌∙◌}
+use mathlib.Core.List.{List, map}
+use mathlib.Core.Path.{◌≡◌, refl, ap, ◌∙◌}
 use lib.ListN.{drop}
-use Rattle.rules.specs.Bytes.{if◌then◌else◌, spacer, unspaced, Num, Int, no_int, int, integer, Nums, short, nums, with_num, after_int, integers, is_present, many_integers, perhaps_integer}
+use Rattle.rules.specs.Bytes.{spacer, unspaced, Num, Int, no_int, int, integer, Nums, short, nums, with_num, after_int, integers, is_present, many_integers, perhaps_integer}
 use Rattle.laws.proofs.Cases.{on}
 
 abbrev pub shifted : ℕ → Nums → Nums

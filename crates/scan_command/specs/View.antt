@@ -1,7 +1,7 @@
 -- A command of the rules, as the code answers it: the values of each case, and the number and place of a refusal.
-use Rattle.std.specs.Prelude.{ℕ, ◌+◌, ◌-◌, List, [], ◌∷◌, length, drop, get_or}
+use Rattle.std.specs.Prelude.{ℕ, ◌+◌, ◌-◌, List, length, drop, get_or}
 use Rattle.rules.specs.Bytes.{origin}
-use Rattle.rules.specs.Act.{Axis, across, down, Scheme, Shape, line, arc, circle, solid_circle, ellipse, solid_ellipse, polygon, solid_polygon, spline, thickness, gray_fill, colour_fill, Plain, Act, glyph, index, to, by, page, font, size, colour, break, space, draw, device, resolution, init, file, mount, plain, raw, stop, Cmd, just, word, pair}
+use Rattle.rules.specs.Act.{Axis, across, down, Shape, line, arc, circle, solid_circle, ellipse, solid_ellipse, polygon, solid_polygon, spline, thickness, gray_fill, colour_fill, Act, glyph, index, to, by, page, font, size, colour, break, space, draw, device, resolution, init, file, mount, plain, raw, stop, Cmd, just, word, pair}
 use Rattle.rules.specs.Drawing.{Way, way_of}
 use Rattle.rules.specs.Letters.{Draft}
 use Rattle.rules.specs.Scan.{Scan, got, bad, judged, letter, command}

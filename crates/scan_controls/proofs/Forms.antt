@@ -10,9 +10,9 @@ use lib.Dec.{leb, eqb}
 use lib.ListN.{length, take, drop, get_or, drop_of_length-le}
 use lib.Seq.{drop-drop}
 use borrow.Author.Tests.{leb-true, leb-false, eqb-true}
-use Rattle.rules.specs.Bytes.{if◌then◌else◌, is, is_space, is_white, is_not_white, spacer, unspaced, string, name_most, origin, moved, within, is_clear, Nums, integers}
+use Rattle.rules.specs.Bytes.{is, is_space, is_white, is_not_white, spacer, unspaced, string, name_most, origin, moved, within, is_clear, Nums, integers}
 use Rattle.rules.specs.Act.{Plain, pause, trailer, height, slant, underline, Act, device, resolution, init, file, mount, plain, raw, stop, just}
-use Rattle.rules.specs.Letters.{Draft, fault, draft, with_all, named, number_named}
+use Rattle.rules.specs.Letters.{Draft, draft, with_all, named, number_named}
 use Rattle.rules.specs.Drawing.{closed}
 use Rattle.rules.specs.Controls.{resolution_of, raw_text, raw_length, rawly, control}
 use Rattle.rules.specs.Record.{plain_letter}

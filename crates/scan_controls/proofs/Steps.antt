@@ -1,7 +1,7 @@
 -- The answer of each return, in the form in which `search` applies it, and the ruleset by which it answers every need of this crate.
 use Prim.Native.Nat.{ℕ, ◌+◌, ◌-◌, ◌≤◌, ◌<◌}
 use mathlib.Core.Bool.{Bool}
-use mathlib.Core.List.{List, [], ◌∷◌}
+use mathlib.Core.List.{List}
 use mathlib.Core.Path.{◌≡◌, sym, ◌∙◌}
 use lib.Dec.{leb}
 use lib.ListN.{length, get_or}

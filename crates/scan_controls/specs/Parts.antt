@@ -1,6 +1,6 @@
 -- What the parts of the control scanner answer, at places of the whole list.
-use Rattle.std.specs.Prelude.{ℕ, ◌-◌, Bool, List, leb}
-use Rattle.rules.specs.Bytes.{if◌then◌else◌, is_space, is_not_white, name_most, origin, within}
+use Rattle.std.specs.Prelude.{ℕ, ◌-◌, Bool, List, leb, if◌then◌else◌}
+use Rattle.rules.specs.Bytes.{is_space, is_not_white, name_most, origin, within}
 use Rattle.rules.specs.Scan.{is_position, is_positive}
 use Rattle.scan_command.specs.declared.Command.{Command}
 use Rattle.scan_command.specs.declared.Command.TheVariants as K

@@ -1,5 +1,7 @@
 // Controls: the command `x` (document 01, "Controls"). A number is handed on by the leaf scanners as itself + 100,000,000. Refusals at
 // one command are found in the order 3, 4, 5, 6, 16; a refusal 6 is at the first argument outside its limit.
+#![tactic(auto)]
+
 ghost use Rattle.std.specs.Prelude.{◌≡◌, ◌<◌, length};
 ghost use Rattle.rules.specs.Scan.{is_position, is_positive};
 ghost use Rattle.scan_command.specs.View.{letter_at};

@@ -13,7 +13,7 @@ use lib.Dec.{eqb}
 use lib.ListN.{length, drop, get_or, length-map, drop_of_length-le}
 use Rattle.rules.specs.Bytes.{is, is_space, spacer, unspaced, origin, moved, within, near, Num, Nums, nums, many_integers, perhaps_integer}
 use Rattle.rules.specs.Act.{Shape, line, arc, circle, solid_circle, ellipse, solid_ellipse, polygon, solid_polygon, spline, thickness, gray_fill, colour_fill, draw, just}
-use Rattle.rules.specs.Letters.{Draft, draft, with_all, coloured}
+use Rattle.rules.specs.Letters.{draft, with_all, coloured}
 use Rattle.rules.specs.Drawing.{line_ends, closed, shape_of, exactly, dummied, paired, form_of, in_pairs, dummy_behind, drawn, in_shape, drawing, pairwise}
 use Rattle.rules.specs.Record.{shape_letter}
 use Rattle.rules.specs.Scan.{is_small, shape_limits, up_to, outside}

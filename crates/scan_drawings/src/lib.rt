@@ -1,4 +1,6 @@
 // Drawings: the command `D`, whose second letter selects its arguments, their limits and the motion (document 01, "Drawing").
+#![tactic(auto)]
+
 ghost use Rattle.std.specs.Prelude.{◌≡◌, ◌<◌, length};
 ghost use Rattle.scan_command.specs.View.{letter_at};
 

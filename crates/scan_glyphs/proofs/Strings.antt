@@ -1,5 +1,6 @@
 -- A glyph of one byte, a name, and two digits, from the scanners' answers: the answer of each return, in the form in which `search`
 -- applies it.
+use Rattle.std.specs.Prelude.{if◌then◌else◌}
 use Prim.Native.Nat.{ℕ, ◌+◌, ◌*◌, ◌-◌, ◌^◌, ◌≤◌, ◌<◌}
 use native.Mathlib.Omega.{arith}
 use native.Mathlib.Nat.{add-zero}
@@ -13,7 +14,7 @@ use lib.Seq.{drop-drop, get_or-drop}
 use mir.Syntax.{w64}
 use mir.Val.{Fits}
 use borrow.Author.Tests.{le-leb, lt-leb, leb-true, ne_eqb, ltb-true, ltb-false, not-false}
-use Rattle.rules.specs.Bytes.{if◌then◌else◌, is_space, is_white, is_not_white, is_digit, is_barred, spacer, unspaced, string}
+use Rattle.rules.specs.Bytes.{is_space, is_white, is_not_white, is_digit, is_barred, spacer, unspaced, string}
 use Rattle.rules.specs.Act.{glyph, Cmd, just, pair}
 use Rattle.rules.specs.Letters.{one_byte, white_next, second_digit}
 use Rattle.rules.specs.Scan.{letter, cmd_limits, name_in, outside}

@@ -1,10 +1,10 @@
 -- What the parts of the commands that draw glyphs answer, at places of the whole stream.
-use Rattle.std.specs.Prelude.{ℕ, Bool, List, leb, drop}
-use Rattle.rules.specs.Bytes.{if◌then◌else◌, is_space, is_not_white, near}
+use Rattle.std.specs.Prelude.{ℕ, Bool, List, leb, drop, if◌then◌else◌}
+use Rattle.rules.specs.Bytes.{is_not_white, near}
 use Rattle.rules.specs.Letters.{white_next}
 use Rattle.scan_command.specs.declared.Command.{Command}
 use Rattle.scan_command.specs.declared.Command.TheVariants.{Word, Refused}
-use Rattle.scan_lex.specs.At.{run_end, is_name_byte}
+use Rattle.scan_lex.specs.At.{run_end}
 use Rattle.scan_arguments.specs.At.{perhaps_at}
 use Rattle.scan_arguments.specs.declared.Perhaps.{Perhaps}
 use Rattle.scan_arguments.specs.declared.Perhaps.TheVariants as P

@@ -1,6 +1,8 @@
 // The commands that draw glyphs: by byte, name and index, words, and the two-digit command (document 01, "Commands of one letter").
 // Each function has the place of the letter, and answers the command or its refusal: 4 and 16 at that place, 6 at the first argument
 // outside its limit.
+#![tactic(auto)]
+
 ghost use Rattle.std.specs.Prelude.{◌≡◌, true, ◌<◌, length, drop};
 ghost use Rattle.rules.specs.Bytes.{is_digit};
 ghost use Rattle.rules.specs.Letters.{white_next};
@@ -12,7 +14,7 @@ use scan_close::Argument;
 use scan_command::Command;
 
 // The dummy integer behind a word: none or a small one, one outside its limit, or a malformed one.
-#[derive(Drop)]
+#[derive(Clone, Copy)]
 enum Dummy {
     Fine { next: usize },
     Outside { place: usize },

@@ -1,17 +1,19 @@
 // The integer at a place, and the limits of numbers (document 01, "Bytes, spaces, numbers"). A number is handed on as itself +
 // 100,000,000, cut at 200,000,000, which is beyond every limit.
+#![tactic(auto)]
+
 ghost use Rattle.std.specs.Prelude.{◌≡◌, ◌+◌, ◌-◌, ◌*◌, min};
 ghost use Rattle.rules.specs.Bytes.{within, near};
 ghost use Rattle.scan_integer.specs.At.{integer_at};
 ghost use Rattle.scan_integer.specs.Parts.{digits_at, signed_at};
 
-#[derive(Drop)]
+#[derive(Clone, Copy)]
 pub enum Number {
     Missing,
     Value { value: u32, next: usize },
 }
 
-#[derive(Drop)]
+#[derive(Clone, Copy)]
 pub struct DigitRun {
     pub value: u32,
     pub next: usize,

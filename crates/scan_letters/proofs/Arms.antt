@@ -1,6 +1,6 @@
 -- The arms of the matches over letters: the answer of each, in the form in which `search` applies it.
 use Prim.Native.Nat.{ℕ, ◌≤◌, ◌<◌}
-use mathlib.Core.List.{List, [], ◌∷◌}
+use mathlib.Core.List.{[], ◌∷◌}
 use mathlib.Core.Logic.{◌⊎◌, inl, inr}
 use mathlib.Core.Path.{◌≡◌}
 use borrow.Author.Rules.{rules}

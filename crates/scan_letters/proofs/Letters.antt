@@ -1,10 +1,10 @@
 -- A letter decides: the tests of a definition one behind the other, and the arms of a `match`.
+use Rattle.std.specs.Prelude.{if◌then◌else◌}
 use Prim.Native.Nat.{ℕ}
 use mathlib.Core.Bool.{Bool, true, false}
 use mathlib.Core.List.{List, [], ◌∷◌}
 use mathlib.Core.Path.{◌≡◌, refl}
 use types.Run.{OneOf}
-use Rattle.rules.specs.Bytes.{if◌then◌else◌}
 
 -- what the default of a `match` knows of a number: it is none of the arms' keys, which stand from the last arm to the first
 abbrev pub Unlike : ℕ → List ℕ → Type 0

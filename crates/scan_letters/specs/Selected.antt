@@ -1,8 +1,8 @@
 -- What a letter selects, for the acts of the rules. Whether it is what the rules say of their arguments, limits and motions is shown
 -- where commands are scanned (`scan_drawings`, `scan_colours`, `scan_controls`) and spelt (`respell_model`).
-use Rattle.std.specs.Prelude.{ℕ, ◌+◌, ◌-◌, ltb}
+use Rattle.std.specs.Prelude.{ℕ, ◌+◌, ◌-◌, ltb, if◌then◌else◌}
 use Rattle.std.proofs.Math.Option.{Option, none, some}
-use Rattle.rules.specs.Bytes.{if◌then◌else◌, is, most, origin}
+use Rattle.rules.specs.Bytes.{is, most, origin}
 use Rattle.rules.specs.Act.{Scheme, cmy, default, gray, cmyk, rgb, Shape, line, arc, circle, solid_circle, ellipse, solid_ellipse, polygon, solid_polygon, spline, thickness, gray_fill, colour_fill}
 use Rattle.rules.specs.Letters.{scheme_of}
 use Rattle.rules.specs.Drawing.{shape_of}

@@ -1,18 +1,20 @@
 // What a letter selects (document 01, "its first byte decides and the rest is ignored"): one match for the letters of `D`, one for those
 // of a scheme, one for those of `x`. Scanner and rewriter ask here, so a letter's arguments, their limits and its motion are said once.
 // Limits are of numbers that are moved up by 100,000,000.
+#![tactic(auto)]
+
 ghost use Rattle.std.specs.Prelude.{◌≡◌};
 ghost use Rattle.scan_letters.specs.Selected.{byte_of, drawing_of, parts_of, control_of};
 
 // The column "motion" of a drawing that has one number or two: +h, +v; +h, 0.
-#[derive(Drop)]
+#[derive(Clone, Copy)]
 pub enum Motion {
     Both,
     Across,
 }
 
 // The column "arguments" of a drawing, with the motion where it is not that of all its pairs.
-#[derive(Drop)]
+#[derive(Clone, Copy)]
 pub enum Drawing {
     // n
     One(Motion),
@@ -33,7 +35,7 @@ pub enum Drawing {
 }
 
 // How many components a scheme has.
-#[derive(Drop)]
+#[derive(Clone, Copy)]
 pub enum Parts {
     Zero,
     One,
@@ -44,7 +46,7 @@ pub enum Parts {
 }
 
 // What stands behind the word of an `x`.
-#[derive(Drop)]
+#[derive(Clone, Copy)]
 pub enum Control {
     // `T` name
     Device,

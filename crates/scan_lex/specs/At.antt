@@ -1,7 +1,7 @@
 -- The runs of bytes of document 01 ("Bytes, spaces, numbers") at a place of a list, as the scanners answer them: places are those of
 -- the list.
-use Rattle.std.specs.Prelude.{ℕ, ◌+◌, Bool, not, ◌&&◌, List, drop, get_or}
-use Rattle.rules.specs.Bytes.{if◌then◌else◌, is, is_white, is_not_white, is_barred, span, one_line}
+use Rattle.std.specs.Prelude.{ℕ, ◌+◌, Bool, not, ◌&&◌, List, drop, get_or, if◌then◌else◌}
+use Rattle.rules.specs.Bytes.{is, is_white, is_not_white, is_barred, span, one_line}
 use Rattle.rules.specs.Drawing.{line_ends}
 
 unfoldable pub run_end : (ℕ → Bool) → List ℕ → ℕ → ℕ

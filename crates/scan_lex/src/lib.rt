@@ -1,5 +1,7 @@
 // Bytes and runs of bytes over a slice and a place: spaces, strings, lines, what stands between commands, line breaks (document 01,
 // "Bytes, spaces, numbers").
+#![tactic(auto)]
+
 ghost use Rattle.std.specs.Prelude.{◌≡◌, get_or};
 ghost use Rattle.rules.specs.Bytes.{same, is_space, is_white, is_not_white, is_not_newline, is_digit};
 ghost use Rattle.rules.specs.Widths.{is_list_name};

@@ -1,4 +1,5 @@
 -- Commands of one integer, of two that are ignored, and of none: the answer of each return, in the form in which `search` applies it.
+use Rattle.std.specs.Prelude.{if◌then◌else◌}
 use Prim.Native.Nat.{ℕ, ◌+◌}
 use native.Mathlib.Omega.{arith}
 use native.Mathlib.Nat.{add-zero}
@@ -7,7 +8,7 @@ use mathlib.Core.List.{List, [], ◌∷◌}
 use mathlib.Core.Path.{◌≡◌, refl, sym, ◌∙◌}
 use borrow.Author.Rules.{rules}
 use lib.ListN.{drop}
-use Rattle.rules.specs.Bytes.{if◌then◌else◌, near, Nums, integers}
+use Rattle.rules.specs.Bytes.{near, Nums, integers}
 use Rattle.rules.specs.Act.{across, down, to, by, page, font, size, break, just}
 use Rattle.rules.specs.Letters.{draft, ignoring}
 use Rattle.rules.specs.Scan.{letter, is_small}

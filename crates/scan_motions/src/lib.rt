@@ -1,6 +1,8 @@
 // The commands of one letter that move and set: positions, page, font, size, line break, space (document 01, "Commands of one
 // letter"). Each function has the place of the letter, and answers the command or its refusal: 4 at that place, 6 at the first argument
 // outside its limit.
+#![tactic(auto)]
+
 ghost use Rattle.std.specs.Prelude.{◌≡◌, ◌<◌, length};
 ghost use Rattle.scan_command.specs.View.{letter_at};
 

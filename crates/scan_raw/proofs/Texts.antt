@@ -1,4 +1,5 @@
 -- The text of `x X`, one byte of it further: in the form in which `search` applies it at a need.
+use Rattle.std.specs.Prelude.{if◌then◌else◌}
 use Prim.Native.Nat.{ℕ, zero, suc, ◌+◌, ◌-◌, ◌^◌, ◌≤◌, ◌<◌}
 use native.Mathlib.Omega.{arith}
 use native.Mathlib.Nat.{add-zero}
@@ -12,7 +13,7 @@ use mir.Syntax.{w64}
 use mir.Val.{Fits}
 use borrow.Author.Rules.{rules}
 use borrow.Author.Tests.{eq-eqb, ne_eqb}
-use Rattle.rules.specs.Bytes.{if◌then◌else◌, is, is_space}
+use Rattle.rules.specs.Bytes.{is, is_space}
 use Rattle.rules.specs.Controls.{raw_text, raw_length}
 use Rattle.laws.proofs.Cases.{on}
 use Rattle.laws_scan.proofs.Walk.{cons_at}

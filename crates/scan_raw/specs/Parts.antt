@@ -1,6 +1,6 @@
 -- What the scanner of the text of `x X` answers, at places of the whole list.
-use Rattle.std.specs.Prelude.{ℕ, ◌+◌, List, [], ◌∷◌, leb, length, drop}
-use Rattle.rules.specs.Bytes.{if◌then◌else◌, is, is_space}
+use Rattle.std.specs.Prelude.{ℕ, ◌+◌, List, [], ◌∷◌, leb, length, drop, if◌then◌else◌}
+use Rattle.rules.specs.Bytes.{is, is_space}
 use Rattle.rules.specs.Controls.{raw_text, raw_length}
 use Rattle.scan_command.specs.declared.Command.{Command}
 use Rattle.scan_command.specs.declared.Command.TheVariants as K

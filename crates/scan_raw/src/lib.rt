@@ -1,11 +1,13 @@
 // The text of the control `x X`, which may go on in further lines (document 01, "Controls").
+#![tactic(auto)]
+
 ghost use Rattle.std.specs.Prelude.{◌≡◌};
 ghost use Rattle.scan_raw.specs.Parts.{step_at, text_at, raw_at};
 
 use scan_command::Command;
 
 // A text: its length, with the newlines that are added, and the place behind its last line.
-#[derive(Drop)]
+#[derive(Clone, Copy)]
 struct Text {
     len: usize,
     next: usize,

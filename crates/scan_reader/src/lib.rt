@@ -1,9 +1,11 @@
 // A reader struct over a stream (document 01, "What each place should look like"): a pass makes it once, thin functions take it apart,
-// and call a covered function on the slice and the number.
+// and call a function on the slice and the number.
+#![tactic(auto)]
+
 ghost use Rattle.std.specs.Prelude.{◌≡◌};
 
 // The stream and the current place.
-#[derive(Drop)]
+#[derive(Clone, Copy)]
 pub struct Reader<'a> {
     pub stream: &'a [u8],
     pub at: usize,

@@ -1,6 +1,8 @@
 // The shapes of a drawing: the arguments of the command `D` by their number, but those of a colour (document 01, "Drawing"). Each function
 // has the command's place, the place where its arguments are due, its letter, and the motion that the letter selects. A number that may
 // be negative is handed on as itself + 100,000,000. Refusals at one command are found in the order 4, 5, 6.
+#![tactic(auto)]
+
 ghost use Rattle.std.specs.Prelude.{◌≡◌};
 ghost use Rattle.rules.specs.Scan.{is_gray};
 ghost use Rattle.scan_shapes.specs.Parts.{moved_by, one_drawn, dummy_drawn, dummied_drawn, two_drawn, four_drawn, polygon_drawn, gray_set};

@@ -1,29 +1,32 @@
 // The lines about the hits of a query, and the row of hits printed.
+#![tactic(auto)]
+
 use rules::Finding;
 use small_out::{Out, add};
 use small_row::least;
 use small_text::{field, put, put_all, put_refusal, short_field};
+use std::io;
 
 // Longer than any line: the longest has two numbers of at most 20 bytes.
 const LINE: usize = 64;
 
 // The first n hits of the row.
-pub fn print_hits(row: &[u32], n: usize) -> Out {
+pub fn print_hits(to: &impl Print, row: &[u32], n: usize) -> io::Result<Out> {
     let end = least(n, row.len());
     let mut out = small_out::start();
     let mut i = 0;
     while i < end {
-        out = hit_line(row[i], out);
+        out = hit_line(to, row[i], out)?;
         i += 1;
     }
-    out
+    Ok(out)
 }
 
 // `hit NUMBER`
-fn hit_line(hit: u32, out: Out) -> Out {
+fn hit_line(to: &impl Print, hit: u32, out: Out) -> io::Result<Out> {
     let mut line = [0u8; LINE];
     let n = put_hit(&mut line, hit);
-    add(out, &line, n)
+    add(to, out, &line, n)
 }
 
 fn put_hit(line: &mut [u8], hit: u32) -> usize {
@@ -33,10 +36,10 @@ fn put_hit(line: &mut [u8], hit: u32) -> usize {
 }
 
 // `found RECORDS HITS`, or `refused NUMBER OFFSET`
-pub fn last_line(answer: Finding, out: Out) -> Out {
+pub fn last_line(to: &impl Print, answer: Finding, out: Out) -> io::Result<Out> {
     let mut line = [0u8; LINE];
     let n = put_last(&mut line, answer);
-    add(out, &line, n)
+    add(to, out, &line, n)
 }
 
 fn put_last(line: &mut [u8], answer: Finding) -> usize {

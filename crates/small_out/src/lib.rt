@@ -1,58 +1,50 @@
 // What the programs write: standard output in blocks, and lines for people on standard error. After a write that failed nothing more is
-// written to standard output.
-ghost use Rattle.std.specs.Prelude.{◌<◌};
-ghost use Rattle.io.specs.Counts.{IsPrefixLen};
+// written to standard output: it is told as an error, with which the printing ends.
+#![tactic(auto)]
 
-use libc::{STDERR_FILENO, STDOUT_FILENO};
+ghost use Rattle.std.specs.Prelude.{◌<◌};
+ghost use Rattle.small_out.specs.Prefix.{IsPrefixLen};
+
+use arrayvec::ArrayString;
+use std::fmt::Write;
+use std::io;
 
 pub const BLOCK: usize = 1024;
 
-// What waits to be written, and whether every write so far was taken.
-#[derive(Drop)]
+// What waits to be written.
+#[derive(Clone, Copy)]
 pub struct Out {
     pub used: usize,
-    pub good: bool,
     pub block: [u8; BLOCK],
 }
 
 pub fn start() -> Out {
-    let block = [0u8; BLOCK];
     Out {
         used: 0,
-        good: true,
-        block: block,
+        block: [0; BLOCK],
     }
 }
 
 // The first n bytes of the line, behind what waits.
-pub fn add(out: Out, line: &[u8], n: usize) -> Out {
+pub fn add(to: &impl Print, out: Out, line: &[u8], n: usize) -> io::Result<Out> {
     let mut block = out.block;
     let mut used = out.used;
-    let mut good = out.good;
-    let mut i = 0;
-    while i < n {
-        if i >= line.len() {
-            break;
-        }
-        good = make_room(good, &block, used);
+    let k = within(n, line);
+    for byte in &line[..k] {
+        make_room(to, &block, used)?;
         let at = place(used);
-        block[at] = line[i];
+        block[at] = *byte;
         used = at + 1;
-        i += 1;
     }
-    Out {
-        used: used,
-        good: good,
-        block: block,
-    }
+    Ok(Out { used, block })
 }
 
 // Writes a full block.
-fn make_room(good: bool, block: &[u8; BLOCK], used: usize) -> bool {
+fn make_room(to: &impl Print, block: &[u8; BLOCK], used: usize) -> io::Result<()> {
     if used < BLOCK {
-        good
+        Ok(())
     } else {
-        send(good, block, used)
+        print(to, block, used)
     }
 }
 
@@ -64,32 +56,44 @@ fn place(used: usize) -> usize
 }
 
 // Writes what waits, and answers whether everything was taken.
-pub fn finish(out: Out) -> bool {
-    let block = out.block;
-    send(out.good, &block, out.used)
-}
-
-fn send(good: bool, block: &[u8; BLOCK], used: usize) -> bool {
-    if !good {
-        return false;
-    }
-    print(block, used)
+pub fn finish(to: &impl Print, out: Out) -> io::Result<()> {
+    print(to, &out.block, out.used)
 }
 
 // Writes the first n bytes of the text, as far as it has them, to standard output, and answers whether they were taken.
-pub fn print(text: &[u8], n: usize) -> bool {
+pub fn print(to: &impl Print, text: &[u8], n: usize) -> io::Result<()> {
     let k = within(n, text);
-    io::write_all(STDOUT_FILENO, &text[..k])
+    to.write_all(&text[..k])
 }
 
-// The same to standard error.
-pub fn say_first(text: &[u8], n: usize) {
+// The same to standard error, where no write that fails is told.
+pub fn say_first(to: &impl Print, text: &[u8], n: usize) {
     let k = within(n, text);
-    say(&text[..k]);
+    say(to, &text[..k]);
 }
 
-pub fn say(text: &[u8]) {
-    io::write_all(STDERR_FILENO, text);
+pub fn say(to: &impl Print, text: &[u8]) {
+    let _ = to.write_all(text);
+}
+
+// Longer than the system's text of any error with its number.
+const ERROR: usize = 320;
+
+// Says a line: what failed, as the caller names it, a colon and the error's text without its number.
+pub fn fail(to: &impl Print, what: &[u8], error: io::Error) {
+    let mut text = ArrayString::<ERROR>::new();
+    let _ = write!(text, "{error}");
+    say(to, what);
+    say(to, b": ");
+    say(to, words(text.as_str()).as_bytes());
+    say(to, b"\n");
+}
+
+fn words(text: &str) -> &str {
+    match text.split_once(" (os error ") {
+        Some((words, _)) => words,
+        None => text,
+    }
 }
 
 // n, or all of s where it is shorter.

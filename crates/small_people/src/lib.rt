@@ -1,4 +1,6 @@
 // The line for people about a refusal, on standard error.
+#![tactic(auto)]
+
 ghost use Rattle.std.specs.Prelude.{◌+◌, ◌^◌, ◌<◌, ◌≤◌};
 
 use small_files::LIST_ROOM;
@@ -7,6 +9,7 @@ use small_text::{put_all, put_number};
 
 // A refusal of a stream with its width list: the line is about the list where that is wrong or too long.
 pub fn refused_either(
+    err: &impl Print,
     stream: &[u8],
     widths: &[u8],
     s: &[u8],
@@ -15,14 +18,14 @@ pub fn refused_either(
     offset: usize,
 ) {
     if number == 2 || number == 1 && list.len() == LIST_ROOM {
-        refused(widths, list, number, offset);
+        refused(err, widths, list, number, offset);
     } else {
-        refused(stream, s, number, offset);
+        refused(err, stream, s, number, offset);
     }
 }
 
 // `PATH: line L, column C: REASON`, of an offset in the bytes of the file at that path.
-pub fn refused(path: &[u8], bytes: &[u8], number: u32, offset: usize) {
+pub fn refused(err: &impl Print, path: &[u8], bytes: &[u8], number: u32, offset: usize) {
     let mut line = [0u8; 256];
     let a = put_all(&mut line, 0, b": line ");
     let b = put_number(&mut line, a, line_of(bytes, offset) as u64);
@@ -31,8 +34,8 @@ pub fn refused(path: &[u8], bytes: &[u8], number: u32, offset: usize) {
     let e = put_all(&mut line, d, b": ");
     let f = put_reason(&mut line, e, number);
     let g = put_all(&mut line, f, b"\n");
-    say(path);
-    say_first(&line, g);
+    say(err, path);
+    say_first(err, &line, g);
 }
 
 // The line of an offset, counted from 1.

@@ -1,16 +1,19 @@
 // The lines of a record, of an entry and of the end of a stream, each in the order of its fields.
+#![tactic(auto)]
+
 use rules::{Colour, Entry, ReadAnswer, Reading, Record};
 use small_out::{Out, add};
 use small_text::{field, put, put_all, put_letter, put_refusal, short_field, signed_field};
+use std::io;
 
 // Longer than any line: the longest has ten numbers of at most 11 bytes and a name of at most 64.
 const LINE: usize = 256;
 
 // `glyph ORDINAL PAGE H V FONT SIZE GAP INDEX PLACE LENGTH NAME`
-pub fn record_line(s: &[u8], r: Record, out: Out) -> Out {
+pub fn record_line(to: &impl Print, s: &[u8], r: Record, out: Out) -> io::Result<Out> {
     let mut line = [0u8; LINE];
     let n = put_record(&mut line, s, r);
-    add(out, &line, n)
+    add(to, out, &line, n)
 }
 
 fn put_record(line: &mut [u8], s: &[u8], r: Record) -> usize {
@@ -43,10 +46,10 @@ fn put_name(line: &mut [u8], at: usize, s: &[u8], r: Record) -> usize {
 }
 
 // `entry LETTERS ORDINAL PLACE LENGTH H V`: nothing of the stream itself.
-pub fn entry_line(_s: &[u8], e: Entry, out: Out) -> Out {
+pub fn entry_line(to: &impl Print, _s: &[u8], e: Entry, out: Out) -> io::Result<Out> {
     let mut line = [0u8; LINE];
     let n = put_entry(&mut line, e);
-    add(out, &line, n)
+    add(to, out, &line, n)
 }
 
 fn put_entry(line: &mut [u8], e: Entry) -> usize {
@@ -71,10 +74,10 @@ fn put_span(line: &mut [u8], at: usize, e: Entry) -> usize {
 }
 
 // `end RECORDS ENTRIES PAGES H V GSCHEME G1 G2 G3 G4 FSCHEME F1 F2 F3 F4`, or `refused NUMBER OFFSET`
-pub fn last_line(reading: Reading, out: Out) -> Out {
+pub fn last_line(to: &impl Print, reading: Reading, out: Out) -> io::Result<Out> {
     let mut line = [0u8; LINE];
     let n = put_last(&mut line, reading);
-    add(out, &line, n)
+    add(to, out, &line, n)
 }
 
 fn put_last(line: &mut [u8], reading: Reading) -> usize {

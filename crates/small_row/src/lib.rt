@@ -1,4 +1,6 @@
 // Rows of records and of entries: what a row holds before it is filled, how many of its places are printed, and what is at a place.
+#![tactic(auto)]
+
 ghost use Rattle.std.specs.Prelude.{◌≡◌, ◌<◌, ◌≤◌, length, get_or};
 ghost use Rattle.small_row.specs.Blank.{blank_record, blank_entry};
 

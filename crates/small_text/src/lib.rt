@@ -1,5 +1,8 @@
 // A line of text, made piece by piece in a lent buffer. Each function puts its bytes from `at` on and answers the place behind them;
 // what does not fit is left out.
+#![tactic(auto)]
+
+use itoa::Buffer;
 
 pub fn put(line: &mut [u8], at: usize, byte: u8) -> usize {
     if at < line.len() {
@@ -21,9 +24,8 @@ pub fn put_all(line: &mut [u8], at: usize, text: &[u8]) -> usize {
 }
 
 pub fn put_number(line: &mut [u8], at: usize, n: u64) -> usize {
-    let mut digits = [0u8; 20];
-    let k = io::decimal(n, &mut digits);
-    put_all(line, at, &digits[..k])
+    let mut digits = Buffer::new();
+    put_all(line, at, digits.format(n).as_bytes())
 }
 
 pub fn put_signed(line: &mut [u8], at: usize, n: i32) -> usize {
@@ -37,12 +39,7 @@ pub fn put_signed(line: &mut [u8], at: usize, n: i32) -> usize {
 
 // The number without its sign.
 fn magnitude(n: i32) -> u64 {
-    if n < 0 {
-        let m = 0 - n as i64;
-        m as u64
-    } else {
-        n as u64
-    }
+    n.unsigned_abs() as u64
 }
 
 // A space and a number.

@@ -14,7 +14,7 @@ use Rattle.scan_command.specs.declared.Command.{Command}
 use Rattle.scan_command.specs.declared.Command.TheVariants as C
 use Rattle.scan_command.specs.contracts.Command as T
 use Rattle.test_codes.specs.declared.Code.{Code}
-use Rattle.test_codes.specs.Codes.{code, code_of}
+use Rattle.test_codes.specs.Codes.{code_of}
 
 pub of_case : (q k : Command) (r : Code) → q ≡ k → r ≡ code_of k → r ≡ code_of q
 of_case q k r e f = rw (f, e)

@@ -1,4 +1,6 @@
 // An answer as numbers, for tests from Rust, and that of a command.
+#![tactic(auto)]
+
 ghost use Rattle.std.specs.Prelude.{◌≡◌, ◌<◌};
 ghost use Rattle.test_codes.specs.Codes.{code, code_of};
 
@@ -6,7 +8,7 @@ use scan_command::Command;
 
 // Which case it is, counted from 1, and its values in their order (`specs/Codes.antt`).
 #[repr(C)]
-#[derive(Drop)]
+#[derive(Clone, Copy)]
 pub struct Code {
     pub tag: u64,
     pub a: u64,

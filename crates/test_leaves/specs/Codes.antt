@@ -1,6 +1,5 @@
 -- The answers of the leaves as numbers, for tests: which case, and its values in their order.
-use Rattle.std.specs.Prelude.{ℕ, List, ltb, length}
-use Rattle.rules.specs.Bytes.{if◌then◌else◌}
+use Rattle.std.specs.Prelude.{ℕ, List, ltb, length, if◌then◌else◌}
 use Rattle.rules.specs.Widths.{WidthList, unsound, sound, width_list}
 use Rattle.rules.specs.Find.{Query, ill_formed, well_formed, query}
 use Rattle.scan_command.specs.View.{command_at}

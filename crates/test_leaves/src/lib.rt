@@ -1,5 +1,7 @@
 // The leaves, exported for tests from Rust: one command of a stream, the width list and the query, judged. Not for the department:
 // its routines are the reader, the rewriter and the finder.
+#![tactic(auto)]
+
 ghost use Rattle.std.specs.Prelude.{◌≡◌};
 ghost use Rattle.test_leaves.specs.Codes.{code_at, list_code, query_code};
 

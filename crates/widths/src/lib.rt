@@ -1,4 +1,6 @@
 // The width list, judged and turned into a table (document 01, "Widths").
+#![tactic(auto)]
+
 ghost use Rattle.std.specs.Prelude.{◌≡◌, ◌+◌, ◌≤◌, length};
 ghost use Rattle.rules.specs.Widths.{width_list};
 ghost use Rattle.name.specs.Part.{part_of};
@@ -8,7 +10,7 @@ ghost use Rattle.widths.specs.Table.{list_of, Loaded};
 
 use widths_line::State;
 
-#[derive(Drop)]
+#[derive(Clone, Copy)]
 pub enum ListAnswer {
     Unsound { offset: usize },
     Sound { unitwidth: u32, fonts: usize },

@@ -1,4 +1,6 @@
 // The advance of a glyph (document 01, "Widths").
+#![tactic(auto)]
+
 ghost use Rattle.std.specs.Prelude.{◌≡◌, ◌+◌, ◌-◌, ◌*◌, ◌/◌, ◌≤◌};
 ghost use Rattle.rules.specs.Widths.{advance};
 

@@ -1,4 +1,6 @@
 // The line `font=NAME` of a width list (document 01, "Widths").
+#![tactic(auto)]
+
 ghost use Rattle.std.specs.Prelude.{◌≡◌, ◌+◌, ◌≤◌, ◌<◌, length};
 ghost use Rattle.name.specs.Part.{part_of};
 ghost use Rattle.widths_font.specs.Fonts.{is_fresh, Good, Room, Cleared, Told, font_says};

@@ -7,7 +7,7 @@ use mathlib.Core.Option.{Option, none, some}
 use native.Mathlib.Omega.{arith}
 use borrow.Author.Rules.{rules}
 use borrow.Author.Tests.{lt-ltb, le-ltb, le-leb, lt-leb, ltb-true, leb-true, leb-false}
-use lib.Dec.{eqb, leb, ltb}
+use lib.Dec.{leb, ltb}
 use lib.ListN.{length, set}
 use Rattle.rules.specs.Bytes.{bytes}
 use Rattle.rules.specs.Widths.{Width, Font, Widths, Due, unit_due, block_due, width_due, wrong_line, right_line, behind, numbered, is_byte, is_rising, may_follow, add_width, unit_line, byte_line, width_line}

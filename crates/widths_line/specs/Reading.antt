@@ -1,7 +1,7 @@
 -- What the code holds while it goes over the lines of a width list, and how that stands for what the rules hold.
-use Rattle.std.specs.Prelude.{ℕ, ◌+◌, ◌≤◌, ◌<◌, min, Bool, ◌&&◌, List, [], ◌∷◌, ◌≡◌, leb, ltb, eqb, length}
+use Rattle.std.specs.Prelude.{ℕ, ◌+◌, ◌≤◌, ◌<◌, min, Bool, ◌&&◌, List, [], ◌∷◌, ◌≡◌, leb, ltb, eqb, length, if◌then◌else◌}
 use Rattle.std.proofs.Math.Option.{Option, none, some}
-use Rattle.rules.specs.Bytes.{if◌then◌else◌, bytes, is_digit, span, value}
+use Rattle.rules.specs.Bytes.{bytes, is_digit, span, value}
 use Rattle.rules.specs.Widths.{Width, Font, Widths, Due, unit_due, block_due, width_due, LineRead, wrong_line, right_line, behind, numbered, is_byte, unit_line, byte_line, line_says}
 use Rattle.widths_table.specs.Table.{TableOf, NamesOf}
 use Rattle.widths_line.specs.declared.State.{State}

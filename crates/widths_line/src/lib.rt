@@ -1,11 +1,13 @@
 // The lines `unitwidth=N`, `byte=N` and `width=N` of a width list (document 01, "Widths").
+#![tactic(auto)]
+
 ghost use Rattle.std.specs.Prelude.{◌≡◌, ◌-◌, ◌*◌, ◌≤◌, ◌<◌, length};
 ghost use Rattle.rules.specs.Widths.{behind, numbered, plain_number, is_byte};
 ghost use Rattle.widths_line.specs.Reading.{cut, digits_cut, can_follow, LineJudged, Stored, unit_says, byte_says, width_says};
 
 // What has been reached in the list: what is due (0 a unitwidth line, 1 a font or byte line, 2 a width line, 3 where a line was wrong),
 // the unitwidth, how many fonts there are, the least byte that may stand next in the block, the byte whose width is due, and the place.
-#[derive(Drop)]
+#[derive(Clone, Copy)]
 pub struct State {
     pub due: u8,
     pub unitwidth: u32,

@@ -1,4 +1,5 @@
 -- The slot of a name.
+use Rattle.std.specs.Prelude.{if◌then◌else◌}
 use Prim.Native.Nat.{ℕ, suc, ◌-◌, ◌≤◌, ◌<◌}
 use mathlib.Core.Path.{◌≡◌, sym, ◌∙◌}
 use mathlib.Core.Bool.{Bool, true, false}
@@ -6,7 +7,7 @@ use mathlib.Core.List.{List}
 use native.Mathlib.Omega.{arith}
 use borrow.Author.Rules.{rules}
 use lib.ListN.{get_or}
-use Rattle.rules.specs.Bytes.{if◌then◌else◌, same}
+use Rattle.rules.specs.Bytes.{same}
 use Rattle.name.specs.Part.{part_of}
 use Rattle.widths_table.specs.Slots.{name_at, slot_in}
 

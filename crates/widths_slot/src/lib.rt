@@ -1,4 +1,6 @@
 // The slot of a font in the table of widths: its name is looked for among those of the list.
+#![tactic(auto)]
+
 ghost use Rattle.std.specs.Prelude.{◌≡◌, ◌≤◌, ◌<◌, length};
 ghost use Rattle.rules.specs.Bytes.{same};
 ghost use Rattle.name.specs.Part.{part_of};

@@ -1,6 +1,6 @@
 -- What the code looks at in place of the rules' fonts: the names' places and lengths in the list.
-use Rattle.std.specs.Prelude.{ℕ, zero, suc, List, get_or}
-use Rattle.rules.specs.Bytes.{if◌then◌else◌, same}
+use Rattle.std.specs.Prelude.{ℕ, zero, suc, List, get_or, if◌then◌else◌}
+use Rattle.rules.specs.Bytes.{same}
 use Rattle.name.specs.Part.{part_of}
 
 abbrev pub name_at : List ℕ → List ℕ → List ℕ → ℕ → List ℕ

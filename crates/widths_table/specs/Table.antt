@@ -1,7 +1,7 @@
 -- The width list as the code holds it: the table of widths, and the names of its fonts.
-use Rattle.std.specs.Prelude.{ℕ, ◌+◌, ◌*◌, ◌<◌, ◌≤◌, List, [], ◌∷◌, ◌≡◌, eqb, length, take, drop, get_or}
+use Rattle.std.specs.Prelude.{ℕ, ◌+◌, ◌*◌, ◌<◌, ◌≤◌, List, [], ◌∷◌, ◌≡◌, eqb, length, take, drop, get_or, if◌then◌else◌}
 use Rattle.std.proofs.Math.Option.{Option, none, some}
-use Rattle.rules.specs.Bytes.{if◌then◌else◌, same}
+use Rattle.rules.specs.Bytes.{same}
 use Rattle.rules.specs.Widths.{Font, width_in}
 
 -- The slot of a font is its number in the list, counted from 0. The rules keep the newest font first, so the slot of a font is how

@@ -1,9 +1,0 @@
-use Rattle.read_control.proofs.Controls.{controls}
-use Rattle.read_control.proofs.phase_on.Statement.{statement}
-use Rattle.read_control.proofs.phase_on.Tie as tie
-
-pub phase_on_spec : {M : Type 1} → statement M
-phase_on_spec =
-    tie.close
-    (tie.spec
-    (λ c κs. search controls) (λ c κs. search controls) (λ c κs. search controls) (λ c κs. search controls) (λ c. search controls) (λ c. search controls))

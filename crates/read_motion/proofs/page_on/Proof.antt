@@ -1,9 +1,0 @@
-use Rattle.read_motion.proofs.Motions.{motions}
-use Rattle.read_motion.proofs.page_on.Statement.{statement}
-use Rattle.read_motion.proofs.page_on.Tie as tie
-
-pub page_on_spec : {M : Type 1} → statement M
-page_on_spec =
-    tie.close
-    (tie.spec
-    (λ c κs. search motions) (λ c. search motions) (λ c κs. search motions) (λ c κs. search motions) (λ c κs. search motions) (λ c. search motions) (λ c. search motions))

@@ -1,0 +1,5 @@
+use Rattle.respell_arguments.proofs.Arguments.{arguments}
+use Rattle.respell_arguments.proofs.put_plain_arg.Goals as goal
+
+pub returns : goal.returns
+returns c = search arguments

@@ -1,6 +1,0 @@
-use Rattle.scan_letters.proofs.Arms.{arms}
-use Rattle.scan_letters.proofs.control_of.Statement.{statement}
-use Rattle.scan_letters.proofs.control_of.Tie as tie
-
-pub control_of_spec : {M : Type 1} → statement M
-control_of_spec = tie.close (tie.spec (λ c. search arms) (λ c. search arms) (λ c. search arms) (λ c. search arms) (λ c. search arms) (λ c. search arms) (λ c. search arms) (λ c. search arms) (λ c. search arms) (λ c. search arms) (λ c. search arms))

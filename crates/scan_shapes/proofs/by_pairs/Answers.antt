@@ -1,0 +1,11 @@
+use Rattle.scan_shapes.proofs.Shapes.{shapes}
+use Rattle.scan_shapes.proofs.by_pairs.Goals as goal
+
+pub returns-in-Short : goal.returns-in-Short
+returns-in-Short c = search shapes
+
+pub returns-in-Over : goal.returns-in-Over
+returns-in-Over c = search shapes
+
+pub returns-in-Read : goal.returns-in-Read
+returns-in-Read c = search shapes

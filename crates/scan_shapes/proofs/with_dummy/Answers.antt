@@ -1,0 +1,11 @@
+use Rattle.scan_shapes.proofs.Shapes.{shapes}
+use Rattle.scan_shapes.proofs.with_dummy.Goals as goal
+
+pub returns-in-Short : goal.returns-in-Short
+returns-in-Short c = search shapes
+
+pub returns-in-Absent : goal.returns-in-Absent
+returns-in-Absent c = search shapes
+
+pub returns-in-Read : goal.returns-in-Read
+returns-in-Read c = search shapes

@@ -1,9 +1,0 @@
-use Rattle.widths.proofs.Turns.{turning}
-use Rattle.widths.proofs.turn.Statement.{statement}
-use Rattle.widths.proofs.turn.Tie as tie
-
-pub turn_spec : {M : Type 1} → statement M
-turn_spec =
-    tie.close
-    (tie.spec
-    (λ c κs. search turning) (λ c. search turning) (λ c. search turning) (λ c. search turning) (λ c. search turning) (λ c. search turning) (λ c κs. search turning) (λ c κs. search turning) (λ c. search turning) (λ c. search turning) (λ c. search turning) (λ c κs. search turning) (λ c κs. search turning) (λ c. search turning) (λ c. search turning) (λ c. search turning) (λ c. search turning) (λ c. search turning) (λ c. search turning) (λ c. search turning) (λ c. search turning))
