@@ -3,7 +3,7 @@
  * glyph, as C functions.
  *
  * The library is target/lib/libmrkvandel.a, for x86-64 and the System V calling convention. The script ./build makes it from five
- * static libraries, one for each function, which `rt staticlib` proves and writes. Proved is what the functions answer and leave in
+ * static libraries, one for each function, which `rt lib` proves and writes. Proved is what the functions answer and leave in
  * the rows and the buffer; the compiler behind the proof, the way into C and this header are tested (routines/). The source of these
  * declarations is the src/lib.rt of crates/capi_read, capi_find, capi_respell, capi_judge and capi_first_name, for the answers that
  * of crates/capi_answers, and for records, entries and colours that of crates/rules. What the answers mean is said in full by the

@@ -1,8 +1,8 @@
 #!/usr/bin/env bash
-# The programs, as `rt ci` left them in target/bin, under a stack of 8 MiB. Each folder NAME-CASE of programs/ has the words that
+# The programs, as `rt ci` left each in its crate's out/, under a stack of 8 MiB. Each folder NAME-CASE of programs/ has the words that
 # small_NAME is run with, one to a line (`args`), the files that they name, and what it must write on standard output and standard
 # error (no file: nothing). The large cases are made here; those that are accepted are held to what the second program prints.
-# A program of the kit has no exit status of its own: 0 says only that it did not crash.
+# The programs end with status 0 whatever they print: it says only that none crashed.
 set -u
 cd "$(dirname "$0")/.." || exit 2
 root=$PWD
@@ -26,9 +26,9 @@ count() { # CASE WHAT-WENT-WRONG
 
 # Runs a program in a folder and compares with the files that are expected; sets `said` to what went wrong.
 run() { # PROGRAM FOLDER STDOUT STDERR WORDS...
-    local program=$root/target/bin/small_$1 folder=$2 out=$3 err=$4 status
+    local program=$root/crates/small_$1/out/small_$1 folder=$2 out=$3 err=$4 status
     shift 4
-    [ -x "$program" ] || { said="there is no target/bin/$(basename "$program")"; return; }
+    [ -x "$program" ] || { said="there is no ${program#"$root/"}"; return; }
     (cd "$folder" && exec "$program" "$@") > "$work/out" 2> "$work/err"
     status=$?
     said=
@@ -78,7 +78,7 @@ large_cases() { # PROGRAM LAST-LINE-OF-THE-LARGEST WORDS-BEHIND-THE-STREAM...
     run "$program" "$large" "$work/nothing" "$work/bytes-said" bytes "$@"
     count "$program-a-byte-too-many" "$said"
     if [ -w /dev/full ]; then
-        said=$( (cd "$large" && "$root/target/bin/small_$program" most "$@" 2>&1 > /dev/full) )
+        said=$( (cd "$large" && "$root/crates/small_$program/out/small_$program" most "$@" 2>&1 > /dev/full) )
         case $said in 'standard output: '*) said= ;; *) said="a full disk is not told: $said" ;; esac
         count "$program-full-disk" "$said"
     fi

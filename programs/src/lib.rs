@@ -54,13 +54,17 @@ pub struct Runner {
 }
 
 impl Runner {
-    /// The program `small_NAME` of `target/bin`, with the folder `target/programs/NAME-LABEL`.
+    /// The program `small_NAME`, as its crate has it, with the folder `target/programs/NAME-LABEL`.
     pub fn new(name: &str, label: &str) -> Runner {
-        let target = Path::new(env!("CARGO_MANIFEST_DIR")).join("../target");
-        let program = target.join("bin").join(format!("small_{name}"));
-        assert!(program.is_file(), "target/bin/small_{name} is missing: run `rt check small_{name}` first");
+        let root = Path::new(env!("CARGO_MANIFEST_DIR")).join("..");
+        let built = format!("crates/small_{name}/out/small_{name}");
+        let program = root.join(&built);
+        assert!(
+            program.is_file(),
+            "{built} is missing: run `rt ci`, or `rt run` in crates/small_{name}, first"
+        );
         let program = program.canonicalize().expect("the program has a path");
-        let folder = target.join("programs").join(format!("{name}-{label}"));
+        let folder = root.join("target/programs").join(format!("{name}-{label}"));
         std::fs::create_dir_all(&folder).expect("a folder for the files can be made");
         Runner { program, folder }
     }

@@ -170,8 +170,10 @@ fn the_header_has_the_same_layout() {
 
 /// The lines of a Rattle struct that is laid out as C does, without spaces around them.
 fn rattle_struct<'a>(source: &'a str, name: &str) -> Vec<&'a str> {
-    let head = format!("#[repr(C)]\npub struct {name} {{\n");
-    let (_, behind) = source.split_once(&head).unwrap_or_else(|| panic!("no struct {name} with #[repr(C)]"));
+    let head = format!("\npub struct {name} {{\n");
+    let (above, behind) = source.split_once(&head).unwrap_or_else(|| panic!("no struct {name}"));
+    let mut attributes = above.lines().rev().take_while(|line| line.starts_with("#["));
+    assert!(attributes.any(|line| line == "#[repr(C)]"), "{name} has no #[repr(C)]");
     let (lines, _) = behind.split_once("\n}").expect("a struct has an end");
     lines.lines().map(str::trim).collect()
 }

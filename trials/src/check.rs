@@ -93,7 +93,7 @@ fn first_check(
     Check {
         name,
         case: case.to_string(),
-        computed: format!("partText {s} {f} (firstName {s} {f} {place} {length})"),
+        computed: format!("part_text {s} {f} (first_name {s} {f} {place} {length})"),
         expected: part_text(part, part.of(stream, families)),
     }
 }
@@ -118,19 +118,19 @@ fn check(number: usize, case: &Case, routine: Routine) -> Check {
     let (word, computed, answer, behind) = match routine {
         Routine::Reader => (
             "reader",
-            format!("readText {s} (readInto {records} {entries} {s} {l})"),
+            format!("read_text {s} (read_into {records} {entries} {s} {l})"),
             Second.glyphs(stream, list, rooms),
             [OLD_RECORD, OLD_ENTRY].concat(),
         ),
         Routine::Rewriter => (
             "rewriter",
-            format!("spellText (respellInto {spelling} {s} {l})"),
+            format!("spell_text (respell_into {spelling} {s} {l})"),
             Second.respell(stream, list, rooms),
             OLD_BYTES.to_vec(),
         ),
         Routine::Finder => (
             "finder",
-            format!("findText (findInto {records} {hits} {s} {l} {f} {q})"),
+            format!("find_text (find_into {records} {hits} {s} {l} {f} {q})"),
             Second.find(stream, list, families, query, rooms),
             [OLD_RECORD, OLD_HIT].concat(),
         ),

@@ -10,14 +10,14 @@ use std::sync::atomic::{AtomicUsize, Ordering};
 
 const CRATES: &str = "rules:\ntrial: rules\n";
 
-const HEADER: &str = "use Prim.Native.Nat.{ℕ}
-use mathlib.Core.Bool.{Bool, true, false}
-use mathlib.Core.List.{List, [], _∷_}
-use lib.Dec.{T}
-use Rattle·rules.specs.Bytes.{bytes, same}
-use Rattle·rules.specs.Rules.{rules}
-use Rattle·rules.specs.Answers.{readInto, respellInto, findInto, firstName}
-use Rattle·trial·specs.specs.Text.{readText, spellText, findText, partText, texts}
+/// The folder of the crate `trial`.
+const TRIAL: &str = "crates/trial";
+
+const HEADER: &str = "use Rattle.std.specs.Prelude.{ℕ, List, [], ◌∷◌, T}
+use Rattle.rules.specs.Bytes.{bytes, same}
+use Rattle.rules.specs.Rules.{rules}
+use Rattle.rules.specs.Answers.{read_into, respell_into, find_into, first_name}
+use Rattle.trial.specs.Text.{read_text, spell_text, find_text, part_text, texts}
 
 ";
 
@@ -46,7 +46,7 @@ impl Verdict {
 pub fn prove(checks: &[Check]) -> io::Result<Verdict> {
     let repository = Repository::create()?;
     repository.write(checks)?;
-    let output = Command::new("rt").args(["check", "trial"]).current_dir(&repository.root).output()?;
+    let output = Command::new("rt").arg("check").current_dir(repository.root.join(TRIAL)).output()?;
     let text = [output.stdout, output.stderr].concat();
     Ok(Verdict { status: output.status.code(), output: String::from_utf8_lossy(&text).into_owned() })
 }
@@ -72,7 +72,7 @@ impl Repository {
     fn write(&self, checks: &[Check]) -> io::Result<()> {
         copy_folder(&project_root().join("crates/rules"), &self.root.join("crates/rules"))?;
         fs::write(self.root.join("crates.txt"), CRATES)?;
-        let trial = self.root.join("crates/trial");
+        let trial = self.root.join(TRIAL);
         fs::create_dir_all(trial.join("src"))?;
         fs::write(trial.join("src/lib.rt"), "// the checks are in specs\n")?;
         let specs = trial.join("specs");
@@ -108,7 +108,7 @@ fn copy_folder(from: &Path, to: &Path) -> io::Result<()> {
         let target = to.join(entry.file_name());
         if !entry.file_type()?.is_dir() {
             fs::copy(entry.path(), target)?;
-        } else if entry.file_name() != "target" {
+        } else if entry.file_name() != "out" {
             copy_folder(&entry.path(), &target)?;
         }
     }
