@@ -92,6 +92,7 @@ def convert(crate, fn, entry, answers):
     if not text:
         return "no old proof"
     if "Tie as tie" not in text:
+        os.remove(f"crates/{crate}/proofs/{fn.replace('::', '/')}/Proof.antt")
         return "a walk by hand"
     uses, defs = parts(text)
     said = []

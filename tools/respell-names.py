@@ -193,6 +193,8 @@ class Repository:
 
 
 def main():
+    if sys.argv[1:] not in ([], ["--say"]):
+        sys.exit(__doc__)
     top = os.getcwd()
     it = Repository(top)
     it.falls_together()
