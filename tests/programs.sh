@@ -24,9 +24,13 @@ count() { # CASE WHAT-WENT-WRONG
     fi
 }
 
+# Where `rt ci` left a program.
+built() { echo "$root/crates/small_$1/out/small_$1"; } # PROGRAM
+
 # Runs a program in a folder and compares with the files that are expected; sets `said` to what went wrong.
 run() { # PROGRAM FOLDER STDOUT STDERR WORDS...
-    local program=$root/crates/small_$1/out/small_$1 folder=$2 out=$3 err=$4 status
+    local program folder=$2 out=$3 err=$4 status
+    program=$(built "$1")
     shift 4
     [ -x "$program" ] || { said="there is no ${program#"$root/"}"; return; }
     (cd "$folder" && exec "$program" "$@") > "$work/out" 2> "$work/err"
@@ -78,7 +82,7 @@ large_cases() { # PROGRAM LAST-LINE-OF-THE-LARGEST WORDS-BEHIND-THE-STREAM...
     run "$program" "$large" "$work/nothing" "$work/bytes-said" bytes "$@"
     count "$program-a-byte-too-many" "$said"
     if [ -w /dev/full ]; then
-        said=$( (cd "$large" && "$root/crates/small_$program/out/small_$program" most "$@" 2>&1 > /dev/full) )
+        said=$( (cd "$large" && "$(built "$program")" most "$@" 2>&1 > /dev/full) )
         case $said in 'standard output: '*) said= ;; *) said="a full disk is not told: $said" ;; esac
         count "$program-full-disk" "$said"
     fi

@@ -73,7 +73,7 @@ def substitute(body, names):
     return re.sub(r"(?<![\w'.-])([^\W\d][\w'₀]*(?:-[\w'₀]+)*)(?![\w'-])", lambda m: names.get(m.group(1), m.group(1)), body)
 
 
-def clause(defn, entry, loop):
+def clause(defn, loop):
     """The body of an old invariant or measure, over the loop's record."""
     text = "\n".join(defn[2]).strip()
     m = re.match(r"^" + re.escape(defn[0]) + r"((?: [^\s=]+)*) =(.*)$", text, re.S)
@@ -87,17 +87,21 @@ def clause(defn, entry, loop):
     return substitute(m.group(2).strip(), {p: w for p, w in zip(params, want) if p != "_"})
 
 
+def gone(path):
+    if os.path.exists(path):
+        os.remove(path)
+
+
 def convert(crate, fn, entry, answers):
     text = old_proof(crate, fn)
     if not text:
         return "no old proof"
+    folder = f"crates/{crate}/proofs/{fn.replace('::', '/')}"
     if "Tie as tie" not in text:
-        os.remove(f"crates/{crate}/proofs/{fn.replace('::', '/')}/Proof.antt")
+        gone(f"{folder}/Proof.antt")
         return "a walk by hand"
     uses, defs = parts(text)
-    said = []
-    folder = f"crates/{crate}/proofs/{fn.replace('::', '/')}"
-    made, extra = [], []
+    said, made = [], []
     by = {d[0].replace("-", "_"): d for d in defs}
     for (names, variables), changed in zip(entry["loops"], entry["changed"]):
         old, new = names
@@ -106,7 +110,7 @@ def convert(crate, fn, entry, answers):
             d = by.get(f"{kind}_{o}")
             if d is None:
                 continue
-            body = clause(d, entry, (variables, changed))
+            body = clause(d, (variables, changed))
             if body is None:
                 said.append(f"{kind} of {old} by hand")
                 continue
@@ -151,9 +155,7 @@ def convert(crate, fn, entry, answers):
                 open(path, "w").write("".join(l + "\n" for l in lines) + had.rstrip("\n") + "\n\n" + body)
             else:
                 open(path, "w").write("\n".join(lines) + "\n\n" + body)
-    p = f"{folder}/Proof.antt"
-    if os.path.exists(p):
-        os.remove(p)
+    gone(f"{folder}/Proof.antt")
     return "; ".join(said)
 
 
