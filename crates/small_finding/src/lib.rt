@@ -10,7 +10,7 @@ use small_out::finish;
 use small_row::no_record;
 use std::io;
 
-// The answer that was printed, and whether all of it was written.
+// The answer that was printed, and the error where not all of it could be written.
 #[derive(Drop)]
 pub struct Shown {
     pub answer: Finding,

@@ -55,18 +55,18 @@ fn place(used: usize) -> usize
     if used < BLOCK { used } else { 0 }
 }
 
-// Writes what waits, and answers whether everything was taken.
+// Writes what waits; an error where not all of it was taken.
 pub fn finish(to: &impl Print, out: Out) -> io::Result<()> {
     print(to, &out.block, out.used)
 }
 
-// Writes the first n bytes of the text, as far as it has them, to standard output, and answers whether they were taken.
+// Writes the first n bytes of the text, as far as it has them; an error where not all of them were taken.
 pub fn print(to: &impl Print, text: &[u8], n: usize) -> io::Result<()> {
     let k = within(n, text);
     to.write_all(&text[..k])
 }
 
-// The same to standard error, where no write that fails is told.
+// The same for people, where no write that fails is told.
 pub fn say_first(to: &impl Print, text: &[u8], n: usize) {
     let k = within(n, text);
     say(to, &text[..k]);

@@ -8,7 +8,7 @@ use small_record::last_line;
 use small_row::{no_entry, no_record};
 use std::io;
 
-// The answer that was printed, and whether all of it was written.
+// The answer that was printed, and the error where not all of it could be written.
 #[derive(Drop)]
 pub struct Shown {
     pub answer: ReadAnswer,

@@ -11,7 +11,7 @@ use std::io;
 // Longer than any line about a refusal, which has two numbers of at most 20 bytes.
 const LINE: usize = 64;
 
-// The answer that was printed, and whether all of it was written.
+// The answer that was printed, and the error where not all of it could be written.
 #[derive(Drop)]
 pub struct Shown {
     pub answer: Respelling,
