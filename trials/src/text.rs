@@ -3,17 +3,13 @@
 
 /// The file `specs/Text.antt` of the temporary crate.
 pub const TEXT: &str = r#"-- FORMATS.md's text of the answers, as the promises have them: what the routines answer, and what they leave in the rows
-use Rattle.std.specs.Prelude.{ℕ, ◌+◌, List, [], ◌∷◌, ◌++◌, eqb, ℤ, pos, negsuc, length, take, drop, replicate, if◌then◌else◌}
+use Rattle.std.specs.Prelude.{ℕ, ◌+◌, List, [], ◌∷◌, ◌++◌, eqb, ℤ, pos, negsuc, length, take, drop, replicate, Result, Ok, Err, if◌then◌else◌}
 use Rattle.rules.specs.declared.Record.{Record}
 use Rattle.rules.specs.declared.Entry.{Entry}
 use Rattle.rules.specs.declared.Colour.{Colour}
-use Rattle.rules.specs.declared.ReadAnswer.{ReadAnswer}
-use Rattle.rules.specs.declared.ReadAnswer.TheVariants as R
+use Rattle.rules.specs.declared.Refusal.{Refusal}
 use Rattle.rules.specs.declared.Reading.{Reading}
-use Rattle.rules.specs.declared.Respelling.{Respelling}
-use Rattle.rules.specs.declared.Respelling.TheVariants as S
 use Rattle.rules.specs.declared.Finding.{Finding}
-use Rattle.rules.specs.declared.Finding.TheVariants as F
 use Rattle.rules.specs.declared.NamePart.{NamePart}
 use Rattle.rules.specs.declared.NamePart.TheVariants as N
 use Rattle.rules.specs.Bytes.{bytes}
@@ -28,8 +24,8 @@ abbrev pub integer_text : ℤ → List ℕ
 integer_text (pos n) = decimal n
 integer_text (negsuc n) = 45 ∷ decimal (n + 1)
 
-abbrev pub refused_text : ℕ → ℕ → List ℕ
-refused_text n at = sp (bytes "refused") (sp (decimal n) (decimal at)) ++ 10 ∷ []
+abbrev pub refused_text : Refusal → List ℕ
+refused_text r = sp (bytes "refused") (sp (decimal r.number) (decimal r.offset)) ++ 10 ∷ []
 
 abbrev pub glyph_text : List ℕ → Record → List ℕ
 glyph_text s r =
@@ -71,52 +67,52 @@ old_record = record { ordinal = 9; page = pos 9; h = pos 9; v = pos 9; font = 9;
 abbrev pub old_entry : Entry
 old_entry = record { command = 9; letter = 9; scheme = 9; ordinal = 9; place = 9; len = 9; h = pos 9; v = pos 9 }
 
-abbrev pub records_in : ReadAnswer → ℕ
-records_in (R.Refused n at) = 0
-records_in (R.Accepted n m p h v) = n
+abbrev pub records_in : Result Reading Refusal → ℕ
+records_in (Err r) = 0
+records_in (Ok a) = a.records
 
-abbrev pub entries_in : ReadAnswer → ℕ
-entries_in (R.Refused n at) = 0
-entries_in (R.Accepted n m p h v) = m
+abbrev pub entries_in : Result Reading Refusal → ℕ
+entries_in (Err r) = 0
+entries_in (Ok a) = a.entries
 
-abbrev pub bytes_in : Respelling → ℕ
-bytes_in (S.Refused n at) = 0
-bytes_in (S.Accepted n) = n
+abbrev pub bytes_in : Result ℕ Refusal → ℕ
+bytes_in (Err r) = 0
+bytes_in (Ok n) = n
 
-abbrev pub found_in : Finding → ℕ
-found_in (F.Refused n at) = 0
-found_in (F.Accepted n m) = n
+abbrev pub found_in : Result Finding Refusal → ℕ
+found_in (Err r) = 0
+found_in (Ok a) = a.records
 
-abbrev pub hits_in : Finding → ℕ
-hits_in (F.Refused n at) = 0
-hits_in (F.Accepted n m) = m
+abbrev pub hits_in : Result Finding Refusal → ℕ
+hits_in (Err r) = 0
+hits_in (Ok a) = a.hits
 
-abbrev pub reading_text : List ℕ → List Record → List Entry → Reading → ReadAnswer → List ℕ
-reading_text s rs xs a (R.Refused n at) = refused_text n at
-reading_text s rs xs a (R.Accepted n m p h v) =
-    glyph_texts s (take n rs) ++ (entry_texts (take m xs) ++
-    (sp (bytes "end") (sp (decimal n) (sp (decimal m) (sp (decimal p) (sp (integer_text h) (sp (integer_text v) (sp (colour_text a.glyph) (colour_text a.fill)))))))
+abbrev pub reading_text : List ℕ → List Record → List Entry → Result Reading Refusal → List ℕ
+reading_text s rs xs (Err r) = refused_text r
+reading_text s rs xs (Ok a) =
+    glyph_texts s (take a.records rs) ++ (entry_texts (take a.entries xs) ++
+    (sp (bytes "end") (sp (decimal a.records) (sp (decimal a.entries) (sp (decimal a.pages) (sp (integer_text a.h) (sp (integer_text a.v) (sp (colour_text a.glyph) (colour_text a.fill)))))))
     ++ 10 ∷ []))
 
 unfoldable pub read_text : List ℕ → Answer → List ℕ
 read_text s a =
-    let rs = records_over (replicate (records_in (reading_of a).answer + 1) old_record) a in
-    let xs = entries_over (replicate (entries_in (reading_of a).answer + 1) old_entry) a in
-    reading_text s rs xs (reading_of a) (reading_of a).answer
-    ++ (glyph_texts [] (drop (records_in (reading_of a).answer) rs) ++ entry_texts (drop (entries_in (reading_of a).answer) xs))
+    let rs = records_over (replicate (records_in (reading_of a) + 1) old_record) a in
+    let xs = entries_over (replicate (entries_in (reading_of a) + 1) old_entry) a in
+    reading_text s rs xs (reading_of a)
+    ++ (glyph_texts [] (drop (records_in (reading_of a)) rs) ++ entry_texts (drop (entries_in (reading_of a)) xs))
 
-abbrev pub respelling_text : List ℕ → Respelling → List ℕ
-respelling_text t (S.Refused n at) = refused_text n at
-respelling_text t (S.Accepted n) = take n t
+abbrev pub respelling_text : List ℕ → Result ℕ Refusal → List ℕ
+respelling_text t (Err r) = refused_text r
+respelling_text t (Ok n) = take n t
 
 unfoldable pub spell_text : Spelling → List ℕ
 spell_text x =
     let t = buffer_over (replicate (bytes_in (respelling_of x) + 2) 9) x in
     respelling_text t (respelling_of x) ++ drop (bytes_in (respelling_of x)) t
 
-abbrev pub finding_text : List ℕ → Finding → List ℕ
-finding_text is (F.Refused n at) = refused_text n at
-finding_text is (F.Accepted n m) = hit_texts (take m is) ++ (sp (bytes "found") (sp (decimal n) (decimal m)) ++ 10 ∷ [])
+abbrev pub finding_text : List ℕ → Result Finding Refusal → List ℕ
+finding_text is (Err r) = refused_text r
+finding_text is (Ok a) = hit_texts (take a.hits is) ++ (sp (bytes "found") (sp (decimal a.records) (decimal a.hits)) ++ 10 ∷ [])
 
 unfoldable pub find_text : Found → List ℕ
 find_text f =

@@ -6,6 +6,7 @@ use mathlib.Core.List.{List, [], ◌∷◌, ◌++◌, map}
 use mathlib.Core.Path.{◌≡◌, refl, sym, ap, subst, ◌∙◌}
 use lib.ListN.{length, take, drop, length-append, take-append-drop}
 use borrow.Author.Tests.{ltb-false, le-ltb, eqb-true, eq-eqb, ne_eqb}
+use lib.Seq.{drop-append_seam}
 use Rattle.rules.specs.Bytes.{is, is_white, is_not_newline, one_line}
 use Rattle.rules.specs.Act.{Cmd}
 use Rattle.rules.specs.Scan.{Scan, got, bad, command, one_command, commands, bare}
@@ -13,7 +14,7 @@ use Rattle.rules.specs.Widths.{Widths}
 use Rattle.rules.specs.State.{Env, Glyph, Item, Step, refused, went, start, steps}
 use Rattle.rules.specs.Record.{GlyphRow, ItemRow, Answer, refuse, answer, follow, seen}
 use Rattle.rules.specs.Answers.{stream_most, read, is_accepted}
-use Rattle.laws.proofs.Cases.{on, no, All, Stops, span_all, all_span, drop-span, drop_front}
+use Rattle.laws.proofs.Cases.{on, no, All, Stops, span_all, all_span, drop-span}
 use Rattle.laws.proofs.Good.{Ended}
 use Rattle.laws_find.proofs.Written.{white_true, true_white, false_not-white, not-white_false}
 use Rattle.laws_scan.proofs.Bounds.{span_le, command-within}
@@ -40,7 +41,7 @@ line_stops (b ∷ r) h = rw h
 pub comment-skipped : (k r : List ℕ) (at : ℕ) → NoNewline k → LineBreak r → commands at (one_line (k ++ r)) (k ++ r) ≡ commands (at + length k) 0 r
 comment-skipped k r at n h =
     rw (span_all is_not_newline k r (line_all k n) (line_stops r h))
-    (commands-drop (length k) at (k ++ r) (rw length-append (omega arith)) ∙ ap (commands (at + length k) 0) (drop_front k r))
+    (commands-drop (length k) at (k ++ r) (rw length-append (omega arith)) ∙ ap (commands (at + length k) 0) (drop-append_seam k r))
 
 all_line : (k : List ℕ) → All is_not_newline k → NoNewline k
 all_line [] h = tt

@@ -1,17 +1,20 @@
 -- Family lists (2026-01): which are sound, and what a name has of one: one family, or none.
 use Prim.Native.Nat.{ℕ, ◌+◌, ◌≤◌}
 use native.Mathlib.Omega.{arith}
-use mathlib.Core.Bool.{Bool, true, false}
+use mathlib.Core.Bool.{false}
 use mathlib.Core.List.{List, [], ◌∷◌, ◌++◌}
 use mathlib.Core.Logic.{◌⊎◌, inl, inr}
 use mathlib.Core.Option.{Option, none, some}
 use mathlib.Core.Path.{◌≡◌, refl, sym, ap, ap₂, subst, ◌∙◌}
 use lib.ListN.{length, take, drop, length-append}
 use borrow.Author.Tests.{ltb-true, ltb-false}
+use lib.Seq.{take-append_seam, drop-append_seam}
+use Rattle.std.proofs.lemmas.List.{append_assoc}
+use Rattle.std.proofs.Math.Option.{some-injective, none-ne-some}
 use Rattle.rules.specs.Bytes.{bytes}
 use Rattle.rules.specs.Families.{Family, names_in, is_in, family_of, FamilyList, ill_grouped, grouped, family_list}
 use Rattle.rules.specs.Answers.{is_over}
-use Rattle.laws.proofs.Cases.{on, no, if_on, take_front, drop_front}
+use Rattle.laws.proofs.Cases.{on, no, if_on}
 use Rattle.laws_find.specs.Occurs.{Has, InOne, Match}
 use Rattle.laws_find.specs.Written.{GoodName}
 use Rattle.laws_find.proofs.Families.{in_has, has_in, Parted, grouped_parted}
@@ -46,17 +49,13 @@ one_row fl fs fs₂ h k = ap families_of (sym h.says ∙ k.says)
 
 -- ---- the family of a name
 
-abbrev is_some : Option Family → Bool
-is_some none = false
-is_some (some f) = true
-
 pub family_is : (fs : List Family) (f : Family) (n : List ℕ) → Parted fs → FamilyIn f fs → Has f n → family_of n fs ≡ some f
 unfolding family_of
 family_is [] f n p i h = absurd i
 family_is (g ∷ fs) f n p (inl e) h = rw (has_in n g (subst (λ (x : Family). Has x n) e h)) (ap some (sym e))
 family_is (g ∷ fs) f n p (inr i) h =
     let k : family_of n fs ≡ some f = family_is fs f n p.2 i h in
-    on (is_in n (names_in g)) (λ e. no (ap is_some (sym (p.0 n (in_has n g e)) ∙ k))) (λ e. rw e k)
+    on (is_in n (names_in g)) (λ e. absurd (none-ne-some f (sym (p.0 n (in_has n g e)) ∙ k))) (λ e. rw e k)
 
 pub family_none : (fs : List Family) (n : List ℕ) → ((f : Family) → FamilyIn f fs → Has f n → ⊥) → family_of n fs ≡ none
 unfolding family_of
@@ -82,15 +81,8 @@ in_or_not (g ∷ fs) n =
         apart f (inr i) h = k f i h
     wider e (some f) k = (inr k.0, k.1)
 
-some_one : (f g : Family) → some f ≡ some g → f ≡ g
-some_one f g e = ap (of_some f) e
-  where
-    of_some : Family → Option Family → Family
-    of_some d none = d
-    of_some d (some x) = x
-
 pub one_family : (fs : List Family) (f g : Family) (n : List ℕ) → Parted fs → FamilyIn f fs → FamilyIn g fs → Has f n → Has g n → f ≡ g
-one_family fs f g n p i j h k = some_one f g (sym (family_is fs f n p i h) ∙ family_is fs g n p j k)
+one_family fs f g n p i j h k = some-injective f g (sym (family_is fs f n p i h) ∙ family_is fs g n p j k)
 
 pub family_lists : FamilyLists
 family_lists = record {
@@ -135,10 +127,6 @@ pub record Standing (fl : List ℕ) (f : Family) : Type 0 where
   pub text : fl ≡ before ++ (f.first ++ behind)
   pub place : f.place ≡ length before
 
-append_assoc : (x y z : List ℕ) → (x ++ y) ++ z ≡ x ++ (y ++ z)
-append_assoc [] y z = refl
-append_assoc (a ∷ x) y z = ap (λ (l : List ℕ). a ∷ l) (append_assoc x y z)
-
 standing_in : (fs : List Family) (f : Family) → AtNames fs → FamilyIn f fs → Standing (family_text fs) f
 unfolding family_text
 standing_in [] f a i = absurd i
@@ -171,7 +159,7 @@ standing fl fs f h i =
 pub stands : (fl : List ℕ) (fs : List Family) (f : Family) → SoundFamilies fl fs → FamilyIn f fs → take (length f.first) (drop f.place fl) ≡ f.first
 stands fl fs f h i =
     let x : Standing fl f = standing fl fs f h i in
-    ap (take (length f.first)) (ap₂ (λ (k : ℕ) (l : List ℕ). drop k l) x.place x.text ∙ drop_front x.before (f.first ++ x.behind)) ∙ take_front f.first x.behind
+    ap (take (length f.first)) (ap₂ (λ (k : ℕ) (l : List ℕ). drop k l) x.place x.text ∙ drop-append_seam x.before (f.first ++ x.behind)) ∙ take-append_seam f.first x.behind
 
 pub stands_inside : (fl : List ℕ) (fs : List Family) (f : Family) → SoundFamilies fl fs → FamilyIn f fs → f.place + length f.first ≤ length fl
 stands_inside fl fs f h i =

@@ -1,4 +1,5 @@
 -- The demands, proved of calls of the finder.
+use Rattle.std.specs.Prelude.{Result, Ok, Err}
 use Prim.Native.Nat.{ℕ, zero, suc, ◌+◌, ◌<◌, ◌≤◌}
 use native.Mathlib.Omega.{arith}
 use mathlib.Core.Bool.{Bool, true, false}
@@ -8,17 +9,18 @@ use mathlib.Core.Path.{◌≡◌, refl, sym, ap, ap₂, subst, ◌∙◌}
 use lib.Dec.{ltb}
 use lib.ListN.{length, take, drop, length-map}
 use borrow.Author.Tests.{ltb-true, ltb-false, lt-ltb, le-ltb}
+use Rattle.std.proofs.lemmas.List.{append_assoc}
 use Rattle.rules.specs.declared.Record.{Record}
 use Rattle.rules.specs.declared.Entry.{Entry}
 use Rattle.rules.specs.declared.Reading.{Reading}
 use Rattle.rules.specs.declared.Finding.{Finding}
-use Rattle.rules.specs.declared.Finding.TheVariants as F
+use Rattle.rules.specs.declared.Refusal.{Refusal}
 use Rattle.rules.specs.Act.{Cmd}
 use Rattle.rules.specs.State.{Glyph}
 use Rattle.rules.specs.Record.{GlyphRow, ItemRow, Answer, refuse, answer, record_of, over}
 use Rattle.rules.specs.Families.{Family}
 use Rattle.rules.specs.Find.{Wanted, Key, key, query, well_formed, sought, hits_from}
-use Rattle.rules.specs.Answers.{is_over, read, Found, not_found, found, key_of, find, found_in, find_into, finding_of, records_found, hits_over}
+use Rattle.rules.specs.Answers.{is_over, read, Found, not_found, found, key_of, find, found_in, find_into, refusal, finding_of, records_found, hits_over}
 use Rattle.rules.specs.Calls.{ReadCall, FindCall}
 use Rattle.laws.proofs.Cases.{on, no, or_true}
 use Rattle.laws_read.specs.Outline.{Sign, byte_sign, signs_of, outline, keys_from}
@@ -34,7 +36,7 @@ use Rattle.laws_offsets.specs.Offsets.{FindOffset, one_too_long, OrRoom, Said}
 use Rattle.laws_offsets.proofs.Offsets.{offsets}
 use Rattle.laws_offsets.proofs.ByNumber.{by_number}
 use Rattle.laws_offsets.proofs.Exactly.{exactly}
-use Rattle.demands.specs.Demands.{SoundFamilies, Accepted, recorded, set, IsAccepted, WellFormed, ListOf, FoundAll, SetBy, none, c_or_C, t_or_u, two_digits, motion, Motion, to_place, by_way, SetOtherwise, ended, same, otherwise, moved, moved₂, SameList, Alike, AlikeByFamilies}
+use Rattle.demands.specs.Demands.{SoundFamilies, Accepted, recorded, set, WellFormed, ListOf, counted, FoundAll, SetBy, none, c_or_C, t_or_u, two_digits, motion, Motion, to_place, by_way, SetOtherwise, ended, same, otherwise, moved, moved₂, SameList, Alike, AlikeByFamilies}
 use Rattle.demands.proofs.Allowed.{ReadsTo, allowed_reads, allowed_accepted, commands_are, Stream, read_allowed}
 use Rattle.demands.proofs.Families.{sound_parted, match_back, match_on}
 use Rattle.demands.proofs.ReadCalls.{take_over, drop_over, length_over, glyphs-seen, rows_stand, Rows, accepted_call}
@@ -143,18 +145,6 @@ keys_rows rs = sym (map-map key (λ (r : GlyphRow). r.glyph) rs)
 
 -- ---- what is answered with the room lent
 
-abbrev records_in : Finding → ℕ
-records_in (F.Accepted n k) = n
-records_in (F.Refused n at) = 0
-
-abbrev hits_count : Finding → ℕ
-hits_count (F.Accepted n k) = k
-hits_count (F.Refused n at) = 0
-
-abbrev IsFound : Finding → Type 0
-IsFound (F.Accepted n k) = Unit {0}
-IsFound (F.Refused n at) = ⊥
-
 abbrev Kept : ℕ → ℕ → Found → Found → Type 0
 Kept records hits y (not_found n at) = (y ≡ not_found n at) ⊎ ((n ≡ 13) × (at ≡ 0) × (gs : List GlyphRow) × (is : List ℕ) × (y ≡ found gs is) × ((records < length gs) ⊎ (hits < length is)))
 Kept records hits y (found gs is) = (y ≡ found gs is) × (length gs ≤ records) × (length is ≤ hits)
@@ -213,7 +203,7 @@ count_rows gs rows e = sym (length-map rows (λ (r : GlyphRow). r.glyph)) ∙ ap
 
 -- ---- a call
 
-module _ (s list fl q : List ℕ) (rs : List Record) (hs : List ℕ) (r : Finding) (rs' : List Record) (hs' : List ℕ) (c : FindCall s list fl q rs hs r rs' hs') where
+module _ (s list fl q : List ℕ) (rs : List Record) (hs : List ℕ) (r : Result Finding Refusal) (rs' : List Record) (hs' : List ℕ) (c : FindCall s list fl q rs hs r rs' hs') where
   pub lengths : (length rs' ≡ length rs) × (length hs' ≡ length hs)
   lengths = go (find_into (length rs) (length hs) s list fl q) (kept_into (length rs) (length hs) s list fl q) c.records c.hits
     where
@@ -221,7 +211,7 @@ module _ (s list fl q : List ℕ) (rs : List Record) (hs : List ℕ) (r : Findin
       go (not_found n at) k a b = (ap length a, ap length b)
       go (found gs is) k a b = (ap length a ∙ length_over (map record_of gs) rs (omega (arith, length-map gs record_of, k.1)), ap length b ∙ length_over is hs k.2)
 
-  pub refuses : (number at : ℕ) → FindOffset s list fl q number at → r ≡ F.Refused number at
+  pub refuses : (number at : ℕ) → FindOffset s list fl q number at → r ≡ Err (refusal number at)
   refuses number at h = c.answer ∙ ap finding_of (exactly.finder (length rs) (length hs) s list fl q number at h)
 
   -- what the rules found is in the rows
@@ -232,7 +222,7 @@ module _ (s list fl q : List ℕ) (rs : List Record) (hs : List ℕ) (r : Findin
       let hits : hs' ≡ over is hs = c.hits ∙ ap (hits_over hs) e in
       record {
         list = take_over (length is) is hs hs' refl hits;
-        numbers = c.answer ∙ ap finding_of e ∙ ap (λ (i : ℕ). F.Accepted i (length is)) (count_rows gs f.rows f.glyphs_are);
+        numbers = c.answer ∙ ap finding_of e ∙ ap (λ (i : ℕ). counted i (length is)) (count_rows gs f.rows f.glyphs_are);
         records = ap (map (recorded s)) (take_over (length gs) (map record_of f.rows) rs rs' n rows) ∙ f.stand;
         list_behind = drop_over (length is) is hs hs' refl hits;
         records_behind = drop_over (length gs) (map record_of f.rows) rs rs' n rows;
@@ -251,7 +241,7 @@ module _ (s list fl q : List ℕ) (rs : List Record) (hs : List ℕ) (r : Findin
     short_in (inl h) = rw (lt-ltb (length rs) (length these.rows) (omega (arith, count_rows gs these.rows these.glyphs_are, h)))
     short_in (inr h) = rw (or_true (ltb (length rs) (length these.rows)) (ltb (length hs) (length is)) (lt-ltb (length hs) (length is) h))
 
-    pub no_room : (length rs < length gs) ⊎ (length hs < length is) → r ≡ F.Refused 13 0
+    pub no_room : (length rs < length gs) ⊎ (length hs < length is) → r ≡ Err (refusal 13 0)
     unfolding find_into
     no_room h = c.answer ∙ ap (λ (x : Found). finding_of (found_in (length rs) (length hs) x)) these.found_is ∙ ap finding_of (short_in h)
 
@@ -303,44 +293,40 @@ source s list fl q rows is h = go (read s list) refl (exactness s list fl q rows
           ap glyphs_in rows_are,
         )
 
-module _ (s list fl q : List ℕ) (rs : List Record) (hs : List ℕ) (n k : ℕ) (rs' : List Record) (hs' : List ℕ) (c : FindCall s list fl q rs hs (F.Accepted n k) rs' hs') where
-  pub only_found : (fs : List Family) × (gs : List Glyph) × (qs : List Wanted) × (is : List ℕ) × SoundFamilies fl fs × Accepted s list gs × WellFormed q qs × ListOf fs qs gs is × FoundAll s rs hs gs is (F.Accepted n k) rs' hs'
+module _ (s list fl q : List ℕ) (rs : List Record) (hs : List ℕ) (f : Finding) (rs' : List Record) (hs' : List ℕ) (c : FindCall s list fl q rs hs (Ok f) rs' hs') where
+  pub only_found : (fs : List Family) × (gs : List Glyph) × (qs : List Wanted) × (is : List ℕ) × SoundFamilies fl fs × Accepted s list gs × WellFormed q qs × ListOf fs qs gs is × FoundAll s rs hs gs is (Ok f) rs' hs'
   only_found = go (find_into (length rs) (length hs) s list fl q) (kept_into (length rs) (length hs) s list fl q) c.answer
     where
-      go : (x : Found) → Kept (length rs) (length hs) (find s list fl q) x → F.Accepted n k ≡ finding_of x
-          → (fs : List Family) × (gs : List Glyph) × (qs : List Wanted) × (is : List ℕ) × SoundFamilies fl fs × Accepted s list gs × WellFormed q qs × ListOf fs qs gs is × FoundAll s rs hs gs is (F.Accepted n k) rs' hs'
-      go (not_found m at) f a = absurd (subst IsFound a tt)
-      go (found rows is) f a =
-          let y : (x : Source s list fl q is) × (x.glyphs ≡ glyphs_in rows) = source s list fl q rows is f.0 in
+      go : (x : Found) → Kept (length rs) (length hs) (find s list fl q) x → Ok f ≡ finding_of x
+          → (fs : List Family) × (gs : List Glyph) × (qs : List Wanted) × (is : List ℕ) × SoundFamilies fl fs × Accepted s list gs × WellFormed q qs × ListOf fs qs gs is × FoundAll s rs hs gs is (Ok f) rs' hs'
+      go (not_found m at) k a = grind arith
+      go (found rows is) k a =
+          let y : (x : Source s list fl q is) × (x.glyphs ≡ glyphs_in rows) = source s list fl q rows is k.0 in
           let x : Source s list fl q is = y.0 in
           let m : length x.glyphs ≡ length rows = ap length y.1 ∙ length-map rows (λ (r : GlyphRow). r.glyph) in
-          (x.families, x.glyphs, x.wanted, is, x.sound_families, x.accepted, x.well_formed, x.list_of, answers s list fl q rs hs (F.Accepted n k) rs' hs' c x.families x.glyphs x.wanted is x.sound_families x.accepted x.well_formed x.list_of (omega (arith, m, f.1)) f.2)
+          (x.families, x.glyphs, x.wanted, is, x.sound_families, x.accepted, x.well_formed, x.list_of, answers s list fl q rs hs (Ok f) rs' hs' c x.families x.glyphs x.wanted is x.sound_families x.accepted x.well_formed x.list_of (omega (arith, m, k.1)) k.2)
 
   -- the row is the reader's
-  pub as_the_reader : (es : List Entry) (r : Reading) (rs₂' : List Record) (es' : List Entry) → ReadCall s list rs es r rs₂' es' → IsAccepted r.answer → rs' ≡ rs₂'
-  as_the_reader es r rs₂' es' d h = go (find_into (length rs) (length hs) s list fl q) (kept_into (length rs) (length hs) s list fl q) c.answer c.records
+  pub as_the_reader : (es : List Entry) (a : Reading) (rs₂' : List Record) (es' : List Entry) → ReadCall s list rs es (Ok a) rs₂' es' → rs' ≡ rs₂'
+  as_the_reader es a rs₂' es' d = go (find_into (length rs) (length hs) s list fl q) (kept_into (length rs) (length hs) s list fl q) c.answer c.records
     where
-      x : Rows s list rs es r rs₂' es' d
-      x = accepted_call s list rs es r rs₂' es' d h
+      x : Rows s list rs es (Ok a) rs₂' es' d
+      x = accepted_call s list rs es (Ok a) rs₂' es' d refl
 
-      go : (y : Found) → Kept (length rs) (length hs) (find s list fl q) y → F.Accepted n k ≡ finding_of y → rs' ≡ records_found rs y → rs' ≡ rs₂'
-      go (not_found m at) f a e = absurd (subst IsFound a tt)
-      go (found rows is) f a e =
-          let same : rows ≡ x.glyphs = sym (exactness s list fl q rows is f.0).records ∙ ap rows_in x.read_is in
+      go : (y : Found) → Kept (length rs) (length hs) (find s list fl q) y → Ok f ≡ finding_of y → rs' ≡ records_found rs y → rs' ≡ rs₂'
+      go (not_found m at) k b e = grind arith
+      go (found rows is) k b e =
+          let same : rows ≡ x.glyphs = sym (exactness s list fl q rows is k.0).records ∙ ap rows_in x.read_is in
           e ∙ ap (λ (l : List GlyphRow). over (map record_of l) rs) same ∙ sym x.records
 
 -- ---- a refusal
 
-module _ (s list fl q : List ℕ) (rs : List Record) (hs : List ℕ) (rs' : List Record) (hs' : List ℕ) (number at : ℕ) (c : FindCall s list fl q rs hs (F.Refused number at) rs' hs') where
-  refused_is : (x : Found) → find_into (length rs) (length hs) s list fl q ≡ x → Kept (length rs) (length hs) (find s list fl q) x → F.Refused number at ≡ finding_of x → rs' ≡ records_found rs x → hs' ≡ hits_over hs x
+module _ (s list fl q : List ℕ) (rs : List Record) (hs : List ℕ) (rs' : List Record) (hs' : List ℕ) (number at : ℕ) (c : FindCall s list fl q rs hs (Err (refusal number at)) rs' hs') where
+  refused_is : (x : Found) → find_into (length rs) (length hs) s list fl q ≡ x → Kept (length rs) (length hs) (find s list fl q) x → Err (refusal number at) ≡ finding_of x → rs' ≡ records_found rs x → hs' ≡ hits_over hs x
       → (find_into (length rs) (length hs) s list fl q ≡ not_found number at) × (rs' ≡ rs) × (hs' ≡ hs) × Kept (length rs) (length hs) (find s list fl q) (not_found number at)
   refused_is (not_found n k) e g a b d =
-      let i : not_found n k ≡ not_found number at = ap refusal_of (sym a) in (e ∙ i, b, d, subst (Kept (length rs) (length hs) (find s list fl q)) i g)
-    where
-      refusal_of : Finding → Found
-      refusal_of (F.Accepted n k) = not_found 0 0
-      refusal_of (F.Refused k at) = not_found k at
-  refused_is (found gs is) e g a b d = absurd (subst IsFound (sym a) tt)
+      let i : not_found n k ≡ not_found number at = grind arith in (e ∙ i, b, d, subst (Kept (length rs) (length hs) (find s list fl q)) i g)
+  refused_is (found gs is) e g a b d = grind arith
 
   refused_call : (find_into (length rs) (length hs) s list fl q ≡ not_found number at) × (rs' ≡ rs) × (hs' ≡ hs) × Kept (length rs) (length hs) (find s list fl q) (not_found number at)
   refused_call = refused_is (find_into (length rs) (length hs) s list fl q) refl (kept_into (length rs) (length hs) s list fl q) c.answer c.records c.hits
@@ -357,7 +343,7 @@ module _ (s list fl q : List ℕ) (rs : List Record) (hs : List ℕ) (rs' : List
   pub refused-kept : Kept (length rs) (length hs) (find s list fl q) (not_found number at)
   refused-kept = refused_call.3
 
-pub only_no_room : (s list fl q : List ℕ) (rs : List Record) (hs : List ℕ) (at : ℕ) (rs' : List Record) (hs' : List ℕ) → FindCall s list fl q rs hs (F.Refused 13 at) rs' hs'
+pub only_no_room : (s list fl q : List ℕ) (rs : List Record) (hs : List ℕ) (at : ℕ) (rs' : List Record) (hs' : List ℕ) → FindCall s list fl q rs hs (Err (refusal 13 at)) rs' hs'
     → (fs : List Family) × (gs : List Glyph) × (qs : List Wanted) × (is : List ℕ) × SoundFamilies fl fs × Accepted s list gs × WellFormed q qs × ListOf fs qs gs is × ((length rs < length gs) ⊎ (length hs < length is))
 only_no_room s list fl q rs hs at rs' hs' c = go (refused-kept s list fl q rs hs rs' hs' 13 at c)
   where
@@ -372,7 +358,7 @@ only_no_room s list fl q rs hs at rs' hs' c = go (refused-kept s list fl q rs hs
 
 -- ---- two calls
 
-module _ (s list s₂ list₂ fl q : List ℕ) (rs rs₂ : List Record) (hs hs₂ : List ℕ) (r r₂ : Finding) (rs' rs₂' : List Record) (hs' hs₂' : List ℕ) (fs : List Family) (gs gs₂ : List Glyph) (qs : List Wanted) (is : List ℕ)
+module _ (s list s₂ list₂ fl q : List ℕ) (rs rs₂ : List Record) (hs hs₂ : List ℕ) (r r₂ : Result Finding Refusal) (rs' rs₂' : List Record) (hs' hs₂' : List ℕ) (fs : List Family) (gs gs₂ : List Glyph) (qs : List Wanted) (is : List ℕ)
     (a : Accepted s list gs) (a₂ : Accepted s₂ list₂ gs₂) (alike : AlikeByFamilies fs gs gs₂) (c : FindCall s list fl q rs hs r rs' hs') (c₂ : FindCall s₂ list₂ fl q rs₂ hs₂ r₂ rs₂' hs₂') (z : SoundFamilies fl fs) (w : WellFormed q qs) (l : ListOf fs qs gs is)
     (p : length gs ≤ length rs) (p₂ : length gs₂ ≤ length rs₂) (k : length is ≤ length hs) (k₂ : length is ≤ length hs₂) where
   one : FoundAll s rs hs gs is r rs' hs'
@@ -384,8 +370,8 @@ module _ (s list s₂ list₂ fl q : List ℕ) (rs rs₂ : List Record) (hs hs�
   count : length gs ≡ length gs₂
   count = alike_count fs gs gs₂ alike
 
-  pub same_list : SameList r r₂ hs' hs₂' × (r ≡ F.Accepted (length gs) (length is))
-  same_list = (record { numbers = one.numbers ∙ ap (λ (i : ℕ). F.Accepted i (length is)) count ∙ sym two.numbers; list = λ n j e. lists j (ap hits_count (sym one.numbers ∙ e)) }, one.numbers)
+  pub same_list : SameList r r₂ hs' hs₂' × (r ≡ counted (length gs) (length is))
+  same_list = (record { numbers = one.numbers ∙ ap (λ (i : ℕ). counted i (length is)) count ∙ sym two.numbers; list = λ f e. lists f.hits (let z : counted (length gs) (length is) ≡ Ok f = sym one.numbers ∙ e in grind arith) }, one.numbers)
     where
       lists : (j : ℕ) → length is ≡ j → take j hs' ≡ take j hs₂'
       lists j e = ap (λ (i : ℕ). take i hs') (sym e) ∙ one.list ∙ sym two.list ∙ ap (λ (i : ℕ). take i hs₂') e
@@ -395,11 +381,7 @@ module _ (s list s₂ list₂ fl q : List ℕ) (rs rs₂ : List Record) (hs hs�
 outline-append : (cs ds : List Cmd) → outline (cs ++ ds) ≡ outline cs ++ outline ds
 unfolding outline
 outline-append [] ds = refl
-outline-append (c ∷ cs) ds = ap (λ (l : List Sign). signs_of c ++ l) (outline-append cs ds) ∙ append_assoc (signs_of c) (outline cs) (outline ds)
-  where
-    append_assoc : (x y z : List Sign) → x ++ (y ++ z) ≡ (x ++ y) ++ z
-    append_assoc [] y z = refl
-    append_assoc (a ∷ x) y z = ap (λ (l : List Sign). a ∷ l) (append_assoc x y z)
+outline-append (c ∷ cs) ds = ap (λ (l : List Sign). signs_of c ++ l) (outline-append cs ds) ∙ sym (append_assoc (signs_of c) (outline cs) (outline ds))
 
 map_both : (xs ys : List ℕ) → map byte_sign xs ++ map byte_sign ys ≡ map byte_sign (xs ++ ys)
 map_both [] ys = refl

@@ -1,5 +1,5 @@
 -- Each record's place is where its name stands in the command that set its glyph; each entry's is where its command stands.
-use Rattle.std.specs.Prelude.{if◌then◌else◌}
+use Rattle.std.specs.Prelude.{Result, if◌then◌else◌}
 use Prim.Native.Nat.{ℕ, suc, ◌+◌, ◌-◌, ◌≤◌}
 use native.Mathlib.Omega.{arith}
 use mathlib.Core.Bool.{true}
@@ -10,6 +10,7 @@ use borrow.Author.Tests.{ne_eqb}
 use Rattle.rules.specs.declared.Record.{Record}
 use Rattle.rules.specs.declared.Entry.{Entry}
 use Rattle.rules.specs.declared.Reading.{Reading}
+use Rattle.rules.specs.declared.Refusal.{Refusal}
 use Rattle.rules.specs.Bytes.{bytes, one_line}
 use Rattle.rules.specs.Act.{Cmd, just, word, pair}
 use Rattle.rules.specs.Scan.{commands}
@@ -142,7 +143,7 @@ module _ (w : Widths) where
 
 -- ---- a call
 
-module _ (s list : List ℕ) (rs : List Record) (es : List Entry) (r : Reading) (rs' : List Record) (es' : List Entry) (c : ReadCall s list rs es r rs' es')
+module _ (s list : List ℕ) (rs : List Record) (es : List Entry) (r : Result Reading Refusal) (rs' : List Record) (es' : List Entry) (c : ReadCall s list rs es r rs' es')
     (w : Widths) (end : Env) (gs : List Glyph) (xs : List Item) (l : SoundList list w) (a : Allowed s w end gs xs) (p : length gs ≤ length rs) (q : length xs ≤ length es) where
   abbrev to : ReadsTo s list end gs xs
   to = allowed_reads s list end gs xs w l a

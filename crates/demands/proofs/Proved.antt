@@ -1,4 +1,5 @@
 -- Every demand, proved: each is put together from what was proved of calls.
+use Rattle.std.specs.Prelude.{Result, Ok, Err}
 use Prim.Native.Nat.{ℕ, ◌<◌, ◌≤◌}
 use native.Mathlib.Omega.{arith}
 use mathlib.Core.List.{List, [], map}
@@ -8,14 +9,13 @@ use lib.ListN.{length, length-map}
 use borrow.Author.Tests.{ltb-true, ltb-false}
 use Rattle.rules.specs.declared.Record.{Record}
 use Rattle.rules.specs.declared.Entry.{Entry}
-use Rattle.rules.specs.declared.ReadAnswer.TheVariants as R
 use Rattle.rules.specs.declared.Reading.{Reading}
 use Rattle.rules.specs.declared.Judging.{Judging}
-use Rattle.rules.specs.declared.Judging.TheVariants as J
+use Rattle.rules.specs.declared.Refusal.{Refusal}
 use Rattle.rules.specs.State.{Env, Glyph, Item}
 use Rattle.rules.specs.Widths.{Widths, width_list}
 use Rattle.rules.specs.Record.{GlyphRow, ItemRow, Answer, refuse, answer}
-use Rattle.rules.specs.Answers.{stream_most, is_over, length_of, read, room_for, read_into, reading_of, records_over, entries_over, respell_into, respelling_of, buffer_over, found_in, find_into, finding_of, records_found, hits_over, spell_with, judging_of, judge}
+use Rattle.rules.specs.Answers.{stream_most, is_over, length_of, read, room_for, read_into, reading_of, records_over, entries_over, respell_into, respelling_of, buffer_over, found_in, find_into, finding_of, records_found, hits_over, spell_with, refusal, judging_of, judge}
 use Rattle.rules.specs.Calls.{ReadCall, JudgeCall}
 use Rattle.rules.specs.Rules.{rules}
 use Rattle.laws.proofs.Cases.{on}
@@ -64,7 +64,7 @@ answer_all = record {
 
 pub refuse_from_the_table : D.Refuse
 refuse_from_the_table = record {
-  reader = λ s list rs es r rs' es' number at c h. read-calls.from_the_table s list rs es r rs' es' c number at h;
+  reader = λ s list rs es rs' es' number at c. read-calls.from_the_table s list rs es rs' es' number at c;
   rewriter = λ s list o o' number at c. spell-calls.from_the_table s list o o' number at c;
   finder = λ s list fl q rs hs rs' hs' number at c. find-calls.from_the_table s list fl q rs hs rs' hs' number at c;
 }
@@ -78,7 +78,7 @@ refuse-exactly = record {
 
 pub leave_alone : D.LeaveAlone
 leave_alone = record {
-  reader = λ s list rs es r rs' es' number at c h. read-calls.leaves s list rs es r rs' es' c number at h;
+  reader = λ s list rs es rs' es' number at c. read-calls.leaves s list rs es rs' es' number at c;
   rewriter = λ s list o o' number at c. spell-calls.leaves s list o o' number at c;
   finder = λ s list fl q rs hs rs' hs' number at c. find-calls.leaves s list fl q rs hs rs' hs' number at c;
 }
@@ -131,11 +131,6 @@ as_01_gives = record {
 
 pub as_written_01 : D.AsWritten01
 as_written_01 = record { integers = integers_as_written; line_breaks = line_breaks; ignored = ignored_in_limit }
-
-pub refused_colours : D.RefusedColours
-refused_colours s list rs es r rs' es' number at c h =
-    let e : r ≡ reading_of (refuse number at) = c.answer ∙ ap reading_of (read-calls.refused_into s list rs es r rs' es' c number at h) in
-    (ap (λ (x : Reading). x.glyph) e, ap (λ (x : Reading). x.fill) e)
 
 pub number_forms : D.NumberForms
 number_forms = forms.number_forms
@@ -190,8 +185,8 @@ find-exactly = record {
   by_commands = find-calls.outline_keys;
   some = find-calls.some_list;
   one = find-calls.one_list;
-  as_the_reader = λ s list fl q rs hs n k rs' hs' es r rs₂' es' c d h. find-calls.as_the_reader s list fl q rs hs n k rs' hs' c es r rs₂' es' d h;
-  only = λ s list fl q rs hs n k rs' hs' c. find-calls.only_found s list fl q rs hs n k rs' hs' c;
+  as_the_reader = λ s list fl q rs hs f rs' hs' es a rs₂' es' c d. find-calls.as_the_reader s list fl q rs hs f rs' hs' c es a rs₂' es' d;
+  only = λ s list fl q rs hs f rs' hs' c. find-calls.only_found s list fl q rs hs f rs' hs' c;
 }
 
 pub by_any_command : D.ByAnyCommand
@@ -240,37 +235,35 @@ first_names = first.first_names
 pub no_room : D.NoRoom
 no_room = record {
   reader = λ s list rs es r rs' es' w end gs xs c l a h. read-calls.no_room s list rs es r rs' es' c w end gs xs l a h;
-  reader_only = λ s list rs es r rs' es' at c h. read-calls.only_no_room s list rs es r rs' es' c at h;
+  reader_only = read-calls.only_no_room;
   rewriter = λ s list o r o' w end gs xs c l a h. spell-calls.no_room s list o r o' c w end gs xs l a h;
   rewriter_only = spell-calls.only_no_room;
   finder = λ s list fl q rs hs r rs' hs' fs gs qs is c z a w l h. find-calls.no_room s list fl q rs hs r rs' hs' c fs gs qs is z a w l h;
   finder_only = find-calls.only_no_room;
 }
 
-abbrev four : Judging → ℕ → ℕ → ℕ → ℕ → Type 0
-four (J.Accepted n m p t) a b c d = (n ≡ a) × (m ≡ b) × (p ≡ c) × (t ≡ d)
-four (J.Refused k at) a b c d = ⊥
-
-module _ (s list : List ℕ) (n m pages len : ℕ) (c : JudgeCall s list (J.Accepted n m pages len)) where
+module _ (s list : List ℕ) (j : Judging) (c : JudgeCall s list (Ok j)) where
   abbrev Spells : List ℕ → Type 0
-  Spells t = ((len ≡ length t) × (len ≤ 16_777_216)) ⊎ ((len ≡ 16_777_217) × (16_777_216 < length t))
+  Spells t = ((j.spelling ≡ length t) × (j.spelling ≤ 16_777_216)) ⊎ ((j.spelling ≡ 16_777_217) × (16_777_216 < length t))
 
-  told-length : (t : List ℕ) → len ≡ length_of t → Spells t
+  told-length : (t : List ℕ) → j.spelling ≡ length_of t → Spells t
   told-length t e =
       on (is_over stream_most t) (λ k. inr (rw k at e, ltb-true stream_most (length t) k))
-      (λ k. let z : len ≡ length t = rw k at e in inl (z, subst (λ (i : ℕ). i ≤ 16_777_216) (sym z) (ltb-false stream_most (length t) k)))
+      (λ k. let z : j.spelling ≡ length t = rw k at e in inl (z, subst (λ (i : ℕ). i ≤ 16_777_216) (sym z) (ltb-false stream_most (length t) k)))
 
-  judge_accepted : (w : Widths) × (end : Env) × (gs : List Glyph) × (xs : List Item) × SoundList list w × (a : Allowed s w end gs xs) × (n ≡ length gs) × (m ≡ length xs) × (pages ≡ end.ordinal) × Spells (house_spelling w a.commands)
+  abbrev Tells : Type 0
+  Tells = (w : Widths) × (end : Env) × (gs : List Glyph) × (xs : List Item) × SoundList list w × (a : Allowed s w end gs xs)
+      × (j.records ≡ length gs) × (j.entries ≡ length xs) × (j.pages ≡ end.ordinal) × Spells (house_spelling w a.commands)
+
+  judge_accepted : Tells
   unfolding judge
   judge_accepted = go (read s list) refl c.answer
     where
-      go : (x : Answer) → read s list ≡ x → J.Accepted n m pages len ≡ judging_of (spell_with s (width_list list)) x
-          → (w : Widths) × (end : Env) × (gs : List Glyph) × (xs : List Item) × SoundList list w × (a : Allowed s w end gs xs) × (n ≡ length gs) × (m ≡ length xs) × (pages ≡ end.ordinal) × Spells (house_spelling w a.commands)
-      go (refuse k at) e h = absurd (subst (λ (x : Judging). four x n m pages len) h (refl, refl, refl, refl))
+      go : (x : Answer) → read s list ≡ x → Ok j ≡ judging_of (spell_with s (width_list list)) x → Tells
+      go (refuse k at) e h = grind arith
       go (answer rs xs d) e h =
           let y : Stream s list d (map (λ (r : GlyphRow). r.glyph) rs) (map (λ (x : ItemRow). x.item) xs) = read_allowed s list rs xs d e in
-          let z : four (J.Accepted n m pages len) (length rs) (length xs) d.ordinal (length_of (spell_with s (width_list list))) =
-          subst (λ (x : Judging). four x (length rs) (length xs) d.ordinal (length_of (spell_with s (width_list list)))) (sym h) (refl, refl, refl, refl) in
+          let z : j ≡ record { records = length rs; entries = length xs; spelling = length_of (spell_with s (width_list list)); pages = d.ordinal } = grind arith in
           let text : spell_with s (width_list list) ≡ house_spelling y.widths y.allowed.commands = rw (y.list_sound.says, y.commands_of) in (
             y.widths,
             d,
@@ -278,17 +271,17 @@ module _ (s list : List ℕ) (n m pages len : ℕ) (c : JudgeCall s list (J.Acce
             map (λ (x : ItemRow). x.item) xs,
             y.list_sound,
             y.allowed,
-            z.0 ∙ sym (length-map rs (λ (r : GlyphRow). r.glyph)),
-            z.1 ∙ sym (length-map xs (λ (x : ItemRow). x.item)),
-            z.2,
-            told-length (house_spelling y.widths y.allowed.commands) (z.3 ∙ ap length_of text),
+            ap (λ (i : Judging). i.records) z ∙ sym (length-map rs (λ (r : GlyphRow). r.glyph)),
+            ap (λ (i : Judging). i.entries) z ∙ sym (length-map xs (λ (x : ItemRow). x.item)),
+            ap (λ (i : Judging). i.pages) z,
+            told-length (house_spelling y.widths y.allowed.commands) (ap (λ (i : Judging). i.spelling) z ∙ ap length_of text),
           )
 
-judge-refused : (s list : List ℕ) (number at : ℕ) → JudgeCall s list (J.Refused number at)
-    → (rs : List Record) (es : List Entry) (r : Reading) (rs' : List Record) (es' : List Entry) → ReadCall s list rs es r rs' es' → r.answer ≡ R.Refused number at
+judge-refused : (s list : List ℕ) (number at : ℕ) → JudgeCall s list (Err (refusal number at))
+    → (rs : List Record) (es : List Entry) (r : Result Reading Refusal) (rs' : List Record) (es' : List Entry) → ReadCall s list rs es r rs' es' → r ≡ Err (refusal number at)
 unfolding read_into
 judge-refused s list number at j rs es r rs' es' c =
-    ap (λ (x : Reading). x.answer) (c.answer ∙ ap (λ (x : Answer). reading_of (room_for (length rs) (length es) x)) (judged.refused s list number at (sym j.answer)))
+    c.answer ∙ ap (λ (x : Answer). reading_of (room_for (length rs) (length es) x)) (judged.refused s list number at (sym j.answer))
 
 pub judge_tells : D.Judge
 judge_tells = record { accepted = judge_accepted; refused = judge-refused }

@@ -1,4 +1,5 @@
 -- The demands, proved of calls of the reader.
+use Rattle.std.specs.Prelude.{Result, Err, is_ok, IsOk}
 use Prim.Native.Nat.{ℕ, ◌<◌, ◌≤◌}
 use native.Mathlib.Omega.{arith}
 use mathlib.Core.List.{List, [], ◌∷◌, map}
@@ -7,17 +8,17 @@ use mathlib.Core.Path.{◌≡◌, refl, sym, ap, ap₂, subst, ◌∙◌}
 use lib.Dec.{ltb}
 use lib.ListN.{length, take, drop, length-append, length-drop, length-map}
 use borrow.Author.Tests.{ltb-true, ltb-false, lt-ltb}
+use lib.Seq.{take-append_seam, drop-append_seam}
 use Rattle.rules.specs.declared.Record.{Record}
 use Rattle.rules.specs.declared.Entry.{Entry}
-use Rattle.rules.specs.declared.ReadAnswer.{ReadAnswer}
-use Rattle.rules.specs.declared.ReadAnswer.TheVariants as R
+use Rattle.rules.specs.declared.Refusal.{Refusal}
 use Rattle.rules.specs.declared.Reading.{Reading}
 use Rattle.rules.specs.State.{Env, Glyph, Item}
 use Rattle.rules.specs.Widths.{Widths}
 use Rattle.rules.specs.Record.{GlyphRow, ItemRow, Answer, refuse, answer, shown, record_of, entry_of, over}
-use Rattle.rules.specs.Answers.{read, room_for, read_into, reading_of, records_over, entries_over}
+use Rattle.rules.specs.Answers.{read, room_for, read_into, refusal, reading_of, records_over, entries_over}
 use Rattle.rules.specs.Calls.{ReadCall}
-use Rattle.laws.proofs.Cases.{on, or_true, take_front, drop_front}
+use Rattle.laws.proofs.Cases.{on, or_true}
 use Rattle.laws_scan.proofs.Names.{AllRows, RowIn, RowsOf, read_stands}
 use Rattle.laws_answers.proofs.Theorems.{roomy}
 use Rattle.laws_answers.proofs.Numbers.{not_13, numbers}
@@ -25,17 +26,17 @@ use Rattle.laws_offsets.specs.Offsets.{ReadOffset, OrRoom, Said}
 use Rattle.laws_offsets.proofs.Offsets.{offsets}
 use Rattle.laws_offsets.proofs.ByNumber.{by_number}
 use Rattle.laws_offsets.proofs.Exactly.{exactly}
-use Rattle.demands.specs.Demands.{SoundList, Allowed, SeenGlyph, recorded, set, entered, drawn, IsAccepted, RecordedAll}
+use Rattle.demands.specs.Demands.{SoundList, Allowed, SeenGlyph, recorded, set, entered, drawn, RecordedAll}
 use Rattle.demands.proofs.Allowed.{ReadsTo, allowed_reads, Stream, read_allowed}
 
 -- ---- rows
 
 -- what is in front of what was there, and behind it
 pub take_over {ℓ} : {A : Type ℓ} (n : ℕ) (new old l : List A) → n ≡ length new → l ≡ over new old → take n l ≡ new
-take_over n new old l h e = ap₂ (λ (i : ℕ) (k : List _). take i k) h e ∙ take_front new (drop (length new) old)
+take_over n new old l h e = ap₂ (λ (i : ℕ) (k : List _). take i k) h e ∙ take-append_seam new (drop (length new) old)
 
 pub drop_over {ℓ} : {A : Type ℓ} (n : ℕ) (new old l : List A) → n ≡ length new → l ≡ over new old → drop n l ≡ drop n old
-drop_over n new old l h e = ap₂ (λ (i : ℕ) (k : List _). drop i k) h e ∙ drop_front new (drop (length new) old) ∙ ap (λ (i : ℕ). drop i old) (sym h)
+drop_over n new old l h e = ap₂ (λ (i : ℕ) (k : List _). drop i k) h e ∙ drop-append_seam new (drop (length new) old) ∙ ap (λ (i : ℕ). drop i old) (sym h)
 
 pub length_over {ℓ} : {A : Type ℓ} (new old : List A) → length new ≤ length old → length (over new old) ≡ length old
 length_over new old h = length-append new (drop (length new) old) ∙ (omega (arith, length-drop (length new) old, h))
@@ -97,11 +98,7 @@ kept_into records entries s list = kept records entries (read s list)
 
 -- ---- a call
 
-abbrev refusal_in : ReadAnswer → ℕ
-refusal_in (R.Accepted n m p h v) = 0
-refusal_in (R.Refused k at) = k
-
-module _ (s list : List ℕ) (rs : List Record) (es : List Entry) (r : Reading) (rs' : List Record) (es' : List Entry) (c : ReadCall s list rs es r rs' es') where
+module _ (s list : List ℕ) (rs : List Record) (es : List Entry) (r : Result Reading Refusal) (rs' : List Record) (es' : List Entry) (c : ReadCall s list rs es r rs' es') where
   abbrev into : Answer
   into = read_into (length rs) (length es) s list
 
@@ -113,38 +110,8 @@ module _ (s list : List ℕ) (rs : List Record) (es : List Entry) (r : Reading) 
       go (answer gs xs e) k a b =
           (ap length a ∙ length_over (map record_of gs) rs (omega (arith, length-map gs record_of, k.1)), ap length b ∙ length_over (map entry_of xs) es (omega (arith, length-map xs entry_of, k.2)))
 
-  module _ (number at : ℕ) (h : r.answer ≡ R.Refused number at) where
-    -- it is a refusal of the rules
-    refused_is : (x : Answer) → into ≡ x → Kept (length rs) (length es) (read s list) x → r ≡ reading_of x → rs' ≡ records_over rs x → es' ≡ entries_over es x
-        → (into ≡ refuse number at) × (rs' ≡ rs) × (es' ≡ es) × Kept (length rs) (length es) (read s list) (refuse number at)
-    refused_is (refuse n o) e k a b d =
-        let z : R.Refused n o ≡ R.Refused number at = sym (ap (λ (y : Reading). y.answer) a) ∙ h in
-        let i : refuse n o ≡ refuse number at = ap (λ (y : ReadAnswer). refusal_of y) z in
-        (e ∙ i, b, d, subst (Kept (length rs) (length es) (read s list)) i k)
-      where
-        refusal_of : ReadAnswer → Answer
-        refusal_of (R.Accepted n m p h v) = refuse 0 0
-        refusal_of (R.Refused k at) = refuse k at
-    refused_is (answer gs xs e) f k a b d = absurd (subst IsAccepted (sym (ap (λ (y : Reading). y.answer) a) ∙ h) tt)
-
-    refused_call : (into ≡ refuse number at) × (rs' ≡ rs) × (es' ≡ es) × Kept (length rs) (length es) (read s list) (refuse number at)
-    refused_call = refused_is (read_into (length rs) (length es) s list) refl (kept_into (length rs) (length es) s list) c.answer c.records c.entries
-
-    pub leaves : (rs' ≡ rs) × (es' ≡ es)
-    leaves = let z = refused_call in (z.1, z.2)
-
-    pub refused_into : read_into (length rs) (length es) s list ≡ refuse number at
-    refused_into = refused_call.0
-
-    pub refused-kept : Kept (length rs) (length es) (read s list) (refuse number at)
-    refused-kept = refused_call.3
-
-    pub from_the_table : OrRoom (ReadOffset s list) number at × Said s list [] [] number at × (number ≡ 12 → ⊥) × (number ≡ 14 → ⊥)
-    from_the_table =
-        let x = by_number.reader (length rs) (length es) s list number at refused_into in (offsets.reader (length rs) (length es) s list number at refused_into, x.0, x.1, x.2)
-
-  pub refuses : (number at : ℕ) → ReadOffset s list number at → r.answer ≡ R.Refused number at
-  refuses number at o = ap (λ (y : Reading). y.answer) (c.answer ∙ ap reading_of (exactly.reader (length rs) (length es) s list number at o))
+  pub refuses : (number at : ℕ) → ReadOffset s list number at → r ≡ Err (refusal number at)
+  refuses number at o = c.answer ∙ ap reading_of (exactly.reader (length rs) (length es) s list number at o)
 
   -- an acceptance
   pub record Rows : Type 0 where
@@ -158,11 +125,11 @@ module _ (s list : List ℕ) (rs : List Record) (es : List Entry) (r : Reading) 
     pub records : rs' ≡ over (map record_of glyphs) rs
     pub entries : es' ≡ over (map entry_of items) es
 
-  pub accepted_call : IsAccepted r.answer → Rows
+  pub accepted_call : IsOk r → Rows
   accepted_call h = go (read_into (length rs) (length es) s list) (kept_into (length rs) (length es) s list) c.answer c.records c.entries
     where
       go : (x : Answer) → Kept (length rs) (length es) (read s list) x → r ≡ reading_of x → rs' ≡ records_over rs x → es' ≡ entries_over es x → Rows
-      go (refuse n at) k a b d = absurd (subst (λ (z : Reading). IsAccepted z.answer) a h)
+      go (refuse n at) k a b d = grind arith
       go (answer gs xs e) k a b d = record { glyphs = gs; items = xs; env = e; read_is = k.0; answer_is = a; room = k.1; entries_room = k.2; records = b; entries = d }
 
   -- what is read, with room for it
@@ -187,9 +154,7 @@ module _ (s list : List ℕ) (rs : List Record) (es : List Entry) (r : Reading) 
       record {
         glyphs = rw n (seen_records x);
         drawings_and_controls = rw m (seen_entries x);
-        answer = rw (n, m) (ap (λ (y : Reading). y.answer) x.answer_is);
-        glyph_colour = ap (λ (y : Reading). y.glyph) x.answer_is;
-        fill_colour = ap (λ (y : Reading). y.fill) x.answer_is;
+        answer = rw (n, m) x.answer_is;
         records_behind = rw n (drop_over (length x.glyphs) (map record_of x.glyphs) rs rs' (sym (length-map x.glyphs record_of)) x.records);
         entries_behind = rw m (drop_over (length x.items) (map entry_of x.items) es es' (sym (length-map x.items entry_of)) x.entries);
       }
@@ -208,8 +173,8 @@ module _ (s list : List ℕ) (rs : List Record) (es : List Entry) (r : Reading) 
       abbrev pub allowed_call : Rows
       allowed_call = roomy_call to.rows to.items end to.read_is (omega (arith, counts, p)) (omega (arith, items_count, q))
 
-      pub accepts : IsAccepted r.answer
-      accepts = subst (λ (z : Reading). IsAccepted z.answer) (sym allowed_call.answer_is) tt
+      pub accepts : IsOk r
+      accepts = ap is_ok allowed_call.answer_is
 
       pub records_each : RecordedAll s end gs xs rs es r rs' es'
       records_each =
@@ -221,11 +186,11 @@ module _ (s list : List ℕ) (rs : List Record) (es : List Entry) (r : Reading) 
     short_room (inr h) =
         rw (or_true (ltb (length rs) (length to.rows)) (ltb (length es) (length to.items)) (lt-ltb (length es) (length to.items) (omega (arith, items_count, h))))
 
-    pub no_room : (length rs < length gs) ⊎ (length es < length xs) → r.answer ≡ R.Refused 13 0
+    pub no_room : (length rs < length gs) ⊎ (length es < length xs) → r ≡ Err (refusal 13 0)
     unfolding read_into
-    no_room h = ap (λ (y : Reading). y.answer) (c.answer ∙ ap (λ (x : Answer). reading_of (room_for (length rs) (length es) x)) to.read_is ∙ ap reading_of (short_room h))
+    no_room h = c.answer ∙ ap (λ (x : Answer). reading_of (room_for (length rs) (length es) x)) to.read_is ∙ ap reading_of (short_room h)
 
-  pub only_allowed : IsAccepted r.answer
+  pub only_allowed : IsOk r
       → (w : Widths) × (end : Env) × (gs : List Glyph) × (xs : List Item) × SoundList list w × Allowed s w end gs xs × (length gs ≤ length rs) × (length xs ≤ length es)
   only_allowed h =
       let x : Rows = accepted_call h in
@@ -240,13 +205,40 @@ module _ (s list : List ℕ) (rs : List Record) (es : List Entry) (r : Reading) 
         rw (length-map x.items (λ (z : ItemRow). z.item)) x.entries_room,
       )
 
-  pub only_no_room : (at : ℕ) → r.answer ≡ R.Refused 13 at
-      → (w : Widths) × (end : Env) × (gs : List Glyph) × (xs : List Item) × SoundList list w × Allowed s w end gs xs × ((length rs < length gs) ⊎ (length es < length xs))
-  only_no_room at h = go (refused-kept 13 at h)
-    where
-      go : Kept (length rs) (length es) (read s list) (refuse 13 at)
-          → (w : Widths) × (end : Env) × (gs : List Glyph) × (xs : List Item) × SoundList list w × Allowed s w end gs xs × ((length rs < length gs) ⊎ (length es < length xs))
-      go (inl e) = absurd (not_13 11 (omega arith) (numbers.read_numbers s list 13 at e))
-      go (inr (e, z, gs, xs, d, f, less)) =
-          let y : Stream s list d (glyphs_in gs) (items_in xs) = read_allowed s list gs xs d f in
-          (y.widths, d, glyphs_in gs, items_in xs, y.list_sound, y.allowed, rw (length-map gs (λ (r : GlyphRow). r.glyph), length-map xs (λ (z : ItemRow). z.item)) less)
+-- ---- a refusal
+
+module _ (s list : List ℕ) (rs : List Record) (es : List Entry) (rs' : List Record) (es' : List Entry) (number at : ℕ) (c : ReadCall s list rs es (Err (refusal number at)) rs' es') where
+  -- it is a refusal of the rules
+  refused_is : (x : Answer) → read_into (length rs) (length es) s list ≡ x → Kept (length rs) (length es) (read s list) x
+      → Err (refusal number at) ≡ reading_of x → rs' ≡ records_over rs x → es' ≡ entries_over es x
+      → (read_into (length rs) (length es) s list ≡ refuse number at) × (rs' ≡ rs) × (es' ≡ es) × Kept (length rs) (length es) (read s list) (refuse number at)
+  refused_is (refuse n o) e k a b d =
+      let i : refuse n o ≡ refuse number at = grind arith in (e ∙ i, b, d, subst (Kept (length rs) (length es) (read s list)) i k)
+  refused_is (answer gs xs e) f k a b d = grind arith
+
+  refused_call : (read_into (length rs) (length es) s list ≡ refuse number at) × (rs' ≡ rs) × (es' ≡ es) × Kept (length rs) (length es) (read s list) (refuse number at)
+  refused_call = refused_is (read_into (length rs) (length es) s list) refl (kept_into (length rs) (length es) s list) c.answer c.records c.entries
+
+  pub leaves : (rs' ≡ rs) × (es' ≡ es)
+  leaves = let z = refused_call in (z.1, z.2)
+
+  pub refused_into : read_into (length rs) (length es) s list ≡ refuse number at
+  refused_into = refused_call.0
+
+  pub refused-kept : Kept (length rs) (length es) (read s list) (refuse number at)
+  refused-kept = refused_call.3
+
+  pub from_the_table : OrRoom (ReadOffset s list) number at × Said s list [] [] number at × (number ≡ 12 → ⊥) × (number ≡ 14 → ⊥)
+  from_the_table =
+      let x = by_number.reader (length rs) (length es) s list number at refused_into in (offsets.reader (length rs) (length es) s list number at refused_into, x.0, x.1, x.2)
+
+pub only_no_room : (s list : List ℕ) (rs : List Record) (es : List Entry) (rs' : List Record) (es' : List Entry) (at : ℕ) → ReadCall s list rs es (Err (refusal 13 at)) rs' es'
+    → (w : Widths) × (end : Env) × (gs : List Glyph) × (xs : List Item) × SoundList list w × Allowed s w end gs xs × ((length rs < length gs) ⊎ (length es < length xs))
+only_no_room s list rs es rs' es' at c = go (refused-kept s list rs es rs' es' 13 at c)
+  where
+    go : Kept (length rs) (length es) (read s list) (refuse 13 at)
+        → (w : Widths) × (end : Env) × (gs : List Glyph) × (xs : List Item) × SoundList list w × Allowed s w end gs xs × ((length rs < length gs) ⊎ (length es < length xs))
+    go (inl e) = absurd (not_13 11 (omega arith) (numbers.read_numbers s list 13 at e))
+    go (inr (e, z, gs, xs, d, f, less)) =
+        let y : Stream s list d (glyphs_in gs) (items_in xs) = read_allowed s list gs xs d f in
+        (y.widths, d, glyphs_in gs, items_in xs, y.list_sound, y.allowed, rw (length-map gs (λ (r : GlyphRow). r.glyph), length-map xs (λ (z : ItemRow). z.item)) less)

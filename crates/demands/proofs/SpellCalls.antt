@@ -1,24 +1,21 @@
 -- The demands, proved of calls of the rewriter, and of reading what it gives.
+use Rattle.std.specs.Prelude.{Result, Ok, Err}
 use Prim.Native.Nat.{ℕ, ◌<◌, ◌≤◌}
 use native.Mathlib.Omega.{arith}
 use mathlib.Core.List.{List, [], ◌∷◌, ◌++◌, map}
 use mathlib.Core.Logic.{◌⊎◌, inl, inr}
 use mathlib.Core.Path.{◌≡◌, refl, sym, ap, ap₂, subst, ◌∙◌}
-use lib.IntN.{ℤ}
 use lib.ListN.{length, take, drop}
 use borrow.Author.Tests.{ltb-true, ltb-false, lt-ltb}
 use Rattle.rules.specs.declared.Record.{Record}
 use Rattle.rules.specs.declared.Entry.{Entry}
-use Rattle.rules.specs.declared.ReadAnswer.{ReadAnswer}
-use Rattle.rules.specs.declared.ReadAnswer.TheVariants as R
+use Rattle.rules.specs.declared.Refusal.{Refusal}
 use Rattle.rules.specs.declared.Reading.{Reading}
-use Rattle.rules.specs.declared.Respelling.{Respelling}
-use Rattle.rules.specs.declared.Respelling.TheVariants as S
 use Rattle.rules.specs.Act.{Axis, Act, to, just}
 use Rattle.rules.specs.State.{Env, Glyph, Item, went, start}
 use Rattle.rules.specs.Widths.{Widths, WidthList, unsound, sound}
 use Rattle.rules.specs.Record.{GlyphRow, ItemRow, Answer, refuse, answer, seen}
-use Rattle.rules.specs.Answers.{stream_most, is_over, read, Spelling, not_spelled, spelled, respell, spelling_in, respell_into, respelling_of, buffer_over}
+use Rattle.rules.specs.Answers.{stream_most, is_over, read, Spelling, not_spelled, spelled, respell, spelling_in, respell_into, refusal, respelling_of, buffer_over}
 use Rattle.rules.specs.Calls.{ReadCall, RespellCall}
 use Rattle.laws.proofs.Cases.{on}
 use Rattle.laws_read.specs.Kept.{all_kept}
@@ -35,7 +32,7 @@ use Rattle.laws_house.specs.Lines.{HouseText}
 use Rattle.laws_house.proofs.Spelt.{spelt_in_lines}
 use Rattle.laws_needed.specs.Statement.{OnlyWhereItDiffers}
 use Rattle.laws_needed.proofs.Theorem.{motions_needed}
-use Rattle.demands.specs.Demands.{SoundList, ConsistsOf, Allowed, recorded, entered, IsAccepted, RecordedAll, house_spelling, ReadTheSame}
+use Rattle.demands.specs.Demands.{SoundList, ConsistsOf, Allowed, recorded, entered, RecordedAll, house_spelling, ReadTheSame}
 use Rattle.demands.proofs.Allowed.{consists_read, ReadsTo, reads_to, allowed_reads, allowed_accepted, commands_are, Stream, read_allowed}
 use Rattle.demands.proofs.ReadCalls.{take_over, length_over, records_each, only_allowed}
 
@@ -48,18 +45,6 @@ pub one_list : (list : List ℕ) (v w : Widths) → SoundList list v → SoundLi
 one_list list v w a b = ap (widths_in v) (sym a.says ∙ b.says)
 
 -- ---- what is given with the room lent
-
-abbrev len_in : Respelling → ℕ
-len_in (S.Accepted n) = n
-len_in (S.Refused k at) = 0
-
-abbrev refusal_in : Respelling → ℕ
-refusal_in (S.Accepted n) = 0
-refusal_in (S.Refused k at) = k
-
-abbrev IsGiven : Respelling → Type 0
-IsGiven (S.Accepted n) = Unit {0}
-IsGiven (S.Refused k at) = ⊥
 
 abbrev Given : ℕ → Spelling → Spelling → Type 0
 Given room y (not_spelled n at) = (y ≡ not_spelled n at) ⊎ ((n ≡ 13) × (at ≡ 0) × (t : List ℕ) × (y ≡ spelled t) × (room < length t))
@@ -120,7 +105,7 @@ spelled_allowed s list t h = spelt s list (λ n at e. subst IsText (sym h ∙ on
 
 -- ---- a call
 
-module _ (s list o : List ℕ) (r : Respelling) (o' : List ℕ) (c : RespellCall s list o r o') where
+module _ (s list o : List ℕ) (r : Result ℕ Refusal) (o' : List ℕ) (c : RespellCall s list o r o') where
   pub buffer_length : length o' ≡ length o
   buffer_length = go (respell_into (length o) s list) (given_into (length o) s list) c.buffer
     where
@@ -128,19 +113,19 @@ module _ (s list o : List ℕ) (r : Respelling) (o' : List ℕ) (c : RespellCall
       go (not_spelled n at) g e = ap length e
       go (spelled t) g e = ap length e ∙ length_over t o g.1
 
-  pub refuses : (number at : ℕ) → ReadOffset s list number at → r ≡ S.Refused number at
+  pub refuses : (number at : ℕ) → ReadOffset s list number at → r ≡ Err (refusal number at)
   refuses number at h = c.answer ∙ ap respelling_of (exactly.rewriter (length o) s list number at h)
 
   module _ (w : Widths) (end : Env) (gs : List Glyph) (xs : List Item) (l : SoundList list w) (a : Allowed s w end gs xs) where
     abbrev text : List ℕ
     text = house_spelling w a.commands
 
-    pub gives : length text ≤ 16_777_216 → length text ≤ length o → (r ≡ S.Accepted (length text)) × (o' ≡ text ++ drop (length text) o)
+    pub gives : length text ≤ 16_777_216 → length text ≤ length o → (r ≡ Ok (length text)) × (o' ≡ text ++ drop (length text) o)
     gives p q =
         let e : respell_into (length o) s list ≡ spelled text = roomy.rewriter (length o) s list text (short_spelling s list w end gs xs l a p) q in
         (c.answer ∙ ap respelling_of e, c.buffer ∙ ap (buffer_over o) e)
 
-    pub no_room : (length o < length text) ⊎ (16_777_216 < length text) → r ≡ S.Refused 13 0
+    pub no_room : (length o < length text) ⊎ (16_777_216 < length text) → r ≡ Err (refusal 13 0)
     unfolding respell_into
     no_room h = c.answer ∙ ap respelling_of (go h (spelt_or s list w end gs xs l a))
       where
@@ -158,17 +143,17 @@ pub record Text (s list o : List ℕ) (n : ℕ) (o' : List ℕ) : Type 0 where
   pub spelling : respell s list ≡ spelled (take n o')
   pub size : length (take n o') ≡ n
 
-pub text_in_lem : (s list o : List ℕ) (n : ℕ) (o' : List ℕ) → RespellCall s list o (S.Accepted n) o' → Text s list o n o'
+pub text_in_lem : (s list o : List ℕ) (n : ℕ) (o' : List ℕ) → RespellCall s list o (Ok n) o' → Text s list o n o'
 text_in_lem s list o n o' c = go (respell_into (length o) s list) (given_into (length o) s list) c.answer c.buffer
   where
-    go : (x : Spelling) → Given (length o) (respell s list) x → S.Accepted n ≡ respelling_of x → o' ≡ buffer_over o x → Text s list o n o'
-    go (not_spelled k at) f a b = absurd (subst IsGiven a tt)
+    go : (x : Spelling) → Given (length o) (respell s list) x → Ok n ≡ respelling_of x → o' ≡ buffer_over o x → Text s list o n o'
+    go (not_spelled k at) f a b = grind arith
     go (spelled t) f a b =
-        let e : n ≡ length t = ap len_in a in
+        let e : n ≡ length t = grind arith in
         let g : take n o' ≡ t = take_over n t o o' e b in
         record { spelling = f.0 ∙ ap spelled (sym g); size = ap length g ∙ sym e }
 
-module _ (s list o : List ℕ) (n : ℕ) (o' : List ℕ) (c : RespellCall s list o (S.Accepted n) o') where
+module _ (s list o : List ℕ) (n : ℕ) (o' : List ℕ) (c : RespellCall s list o (Ok n) o') where
   abbrev t : List ℕ
   t = take n o'
 
@@ -212,57 +197,38 @@ module _ (s list o : List ℕ) (n : ℕ) (o' : List ℕ) (c : RespellCall s list
       (subst (λ (k : List Glyph). Allowed t z.widths end k xs) y.glyphs_are
       (subst (λ (k : List Item). Allowed t z.widths end (map (λ (r : GlyphRow). r.glyph) y.rows) k) y.items_are z.allowed))
 
-  abbrev records_in : ReadAnswer → ℕ
-  records_in (R.Accepted n m p h v) = n
-  records_in (R.Refused k at) = 0
-
-  abbrev entries_in : ReadAnswer → ℕ
-  entries_in (R.Accepted n m p h v) = m
-  entries_in (R.Refused k at) = 0
-
-  module _ (rs : List Record) (es : List Entry) (r : Reading) (rs' : List Record) (es' : List Entry) (k m pages : ℕ) (h v : ℤ) (d : ReadCall s list rs es r rs' es') (is : r.answer ≡ R.Accepted k m pages h v)
-      (rs₂ : List Record) (es₂ : List Entry) (r₂ : Reading) (rs₂' : List Record) (es₂' : List Entry) (d₂ : ReadCall t list rs₂ es₂ r₂ rs₂' es₂') (p : k ≤ length rs₂) (q : m ≤ length es₂) where
-    same_rows : (r₂ ≡ r) × (map (recorded t) (take k rs₂') ≡ map (recorded s) (take k rs')) × (map entered (take m es₂') ≡ map entered (take m es'))
-    same_rows = go (only_allowed s list rs es r rs' es' d (subst IsAccepted (sym is) tt))
+  module _ (rs : List Record) (es : List Entry) (a : Reading) (rs' : List Record) (es' : List Entry) (d : ReadCall s list rs es (Ok a) rs' es')
+      (rs₂ : List Record) (es₂ : List Entry) (r₂ : Result Reading Refusal) (rs₂' : List Record) (es₂' : List Entry) (d₂ : ReadCall t list rs₂ es₂ r₂ rs₂' es₂') (p : a.records ≤ length rs₂) (q : a.entries ≤ length es₂) where
+    same_rows : (r₂ ≡ Ok a) × (map (recorded t) (take a.records rs₂') ≡ map (recorded s) (take a.records rs')) × (map entered (take a.entries es₂') ≡ map entered (take a.entries es'))
+    same_rows = go (only_allowed s list rs es (Ok a) rs' es' d refl)
       where
         go : (w : Widths) × (end : Env) × (gs : List Glyph) × (xs : List Item) × SoundList list w × Allowed s w end gs xs × (length gs ≤ length rs) × (length xs ≤ length es)
-            → (r₂ ≡ r) × (map (recorded t) (take k rs₂') ≡ map (recorded s) (take k rs')) × (map entered (take m es₂') ≡ map entered (take m es'))
-        go (w, end, gs, xs, l, a, i, j) =
-            let x : RecordedAll s end gs xs rs es r rs' es' = records_each s list rs es r rs' es' d w end gs xs l a i j in
-            let e : k ≡ length gs = ap records_in (sym is ∙ x.answer) in
-            let f : m ≡ length xs = ap entries_in (sym is ∙ x.answer) in
+            → (r₂ ≡ Ok a) × (map (recorded t) (take a.records rs₂') ≡ map (recorded s) (take a.records rs')) × (map entered (take a.entries es₂') ≡ map entered (take a.entries es'))
+        go (w, end, gs, xs, l, b, i, j) =
+            let x : RecordedAll s end gs xs rs es (Ok a) rs' es' = records_each s list rs es (Ok a) rs' es' d w end gs xs l b i j in
+            let e : a.records ≡ length gs = let z = x.answer in grind arith in
+            let f : a.entries ≡ length xs = let z = x.answer in grind arith in
             let y : RecordedAll t end gs xs rs₂ es₂ r₂ rs₂' es₂' =
-            records_each t list rs₂ es₂ r₂ rs₂' es₂' d₂ w end gs xs l (same_allowed w end gs xs l a) (subst (λ (z : ℕ). z ≤ length rs₂) e p) (subst (λ (z : ℕ). z ≤ length es₂) f q) in
-            (same_answer x y, rw (e) (y.glyphs ∙ sym x.glyphs), rw (f) (y.drawings_and_controls ∙ sym x.drawings_and_controls))
-          where
-            same_answer : (x : RecordedAll s end gs xs rs es r rs' es') (y : RecordedAll t end gs xs rs₂ es₂ r₂ rs₂' es₂') → r₂ ≡ r
-            same_answer x y = λ i. record {
-              answer = (y.answer ∙ sym x.answer) i;
-              glyph = (y.glyph_colour ∙ sym x.glyph_colour) i;
-              fill = (y.fill_colour ∙ sym x.fill_colour) i;
-            }
+            records_each t list rs₂ es₂ r₂ rs₂' es₂' d₂ w end gs xs l (same_allowed w end gs xs l b) (subst (λ (z : ℕ). z ≤ length rs₂) e p) (subst (λ (z : ℕ). z ≤ length es₂) f q) in
+            (y.answer ∙ sym x.answer, rw (e) (y.glyphs ∙ sym x.glyphs), rw (f) (y.drawings_and_controls ∙ sym x.drawings_and_controls))
 
   pub reads_the_same : ReadTheSame s list t
   reads_the_same = record { allowed = same_allowed; rows = same_rows }
 
-  pub changes_nothing : (o₂ : List ℕ) (r₂ : Respelling) (o₂' : List ℕ) → RespellCall t list o₂ r₂ o₂' → n ≤ length o₂ → (r₂ ≡ S.Accepted n) × (take n o₂' ≡ t)
+  pub changes_nothing : (o₂ : List ℕ) (r₂ : Result ℕ Refusal) (o₂' : List ℕ) → RespellCall t list o₂ r₂ o₂' → n ≤ length o₂ → (r₂ ≡ Ok n) × (take n o₂' ≡ t)
   changes_nothing o₂ r₂ o₂' d h =
       let x : Text s list o n o' = text_in_lem s list o n o' c in
       let e : respell_into (length o₂) t list ≡ spelled t = roomy.rewriter (length o₂) t list t (fixed_point s list t x.spelling) (omega (arith, x.size, h)) in
-      (d.answer ∙ ap respelling_of e ∙ ap S.Accepted x.size, take_over n t o₂ o₂' (sym x.size) (d.buffer ∙ ap (buffer_over o₂) e))
+      (d.answer ∙ ap respelling_of e ∙ ap Ok x.size, take_over n t o₂ o₂' (sym x.size) (d.buffer ∙ ap (buffer_over o₂) e))
 
 -- ---- a refusal
 
-module _ (s list o o' : List ℕ) (number at : ℕ) (c : RespellCall s list o (S.Refused number at) o') where
-  refused_is : (x : Spelling) → respell_into (length o) s list ≡ x → Given (length o) (respell s list) x → S.Refused number at ≡ respelling_of x → o' ≡ buffer_over o x
+module _ (s list o o' : List ℕ) (number at : ℕ) (c : RespellCall s list o (Err (refusal number at)) o') where
+  refused_is : (x : Spelling) → respell_into (length o) s list ≡ x → Given (length o) (respell s list) x → Err (refusal number at) ≡ respelling_of x → o' ≡ buffer_over o x
       → (respell_into (length o) s list ≡ not_spelled number at) × (o' ≡ o) × Given (length o) (respell s list) (not_spelled number at)
   refused_is (not_spelled n k) e g a b =
-      let i : not_spelled n k ≡ not_spelled number at = ap refusal_of (sym a) in (e ∙ i, b, subst (Given (length o) (respell s list)) i g)
-    where
-      refusal_of : Respelling → Spelling
-      refusal_of (S.Accepted n) = not_spelled 0 0
-      refusal_of (S.Refused k at) = not_spelled k at
-  refused_is (spelled t) e g a b = absurd (subst IsGiven (sym a) tt)
+      let i : not_spelled n k ≡ not_spelled number at = grind arith in (e ∙ i, b, subst (Given (length o) (respell s list)) i g)
+  refused_is (spelled t) e g a b = grind arith
 
   refused_call : (respell_into (length o) s list ≡ not_spelled number at) × (o' ≡ o) × Given (length o) (respell s list) (not_spelled number at)
   refused_call = refused_is (respell_into (length o) s list) refl (given_into (length o) s list) c.answer c.buffer
@@ -280,7 +246,7 @@ module _ (s list o o' : List ℕ) (number at : ℕ) (c : RespellCall s list o (S
   pub refused_given : Given (length o) (respell s list) (not_spelled number at)
   refused_given = refused_call.2
 
-pub only_no_room : (s list o o' : List ℕ) (at : ℕ) → RespellCall s list o (S.Refused 13 at) o'
+pub only_no_room : (s list o o' : List ℕ) (at : ℕ) → RespellCall s list o (Err (refusal 13 at)) o'
     → (w : Widths) × (end : Env) × (gs : List Glyph) × (xs : List Item) × SoundList list w × (a : Allowed s w end gs xs) × ((length o < length (house_spelling w a.commands)) ⊎ (16_777_216 < length (house_spelling w a.commands)))
 only_no_room s list o o' at c = with_stream (spelt s list refuted) (refused_given s list o o' 13 at c)
   where
@@ -298,7 +264,7 @@ only_no_room s list o o' at c = with_stream (spelt s list refuted) (refused_give
         → (w : Widths) × (end : Env) × (gs : List Glyph) × (xs : List Item) × SoundList list w × (a : Allowed s w end gs xs) × ((length o < length (house_spelling w a.commands)) ⊎ (16_777_216 < length (house_spelling w a.commands)))
     with_stream y g = (y.stream.widths, y.end, y.glyphs, y.items, y.stream.list_sound, y.stream.allowed, by_cases (house_spelling y.stream.widths y.stream.allowed.commands) (spelt_or s list y.stream.widths y.end y.glyphs y.items y.stream.list_sound y.stream.allowed) g)
       where
-        by_cases : (text : List ℕ) → (respell s list ≡ spelled text) ⊎ ((respell s list ≡ not_spelled 13 0) × (stream_most < length text)) → Given (length o) (respell s list) (not_spelled 13 at) → (length o < length text) ⊎ (16_777_216 < length text)
-        by_cases text (inl e) (inl f) = absurd (subst IsText (sym e ∙ f) tt)
-        by_cases text (inl e) (inr (f, k, t, i, j)) = inl (subst (λ (x : List ℕ). length o < length x) (ap text_in (sym i ∙ e)) j)
-        by_cases text (inr e) f = inr e.1
+        by_cases : (u : List ℕ) → (respell s list ≡ spelled u) ⊎ ((respell s list ≡ not_spelled 13 0) × (stream_most < length u)) → Given (length o) (respell s list) (not_spelled 13 at) → (length o < length u) ⊎ (16_777_216 < length u)
+        by_cases u (inl e) (inl f) = absurd (subst IsText (sym e ∙ f) tt)
+        by_cases u (inl e) (inr (f, k, t, i, j)) = inl (subst (λ (x : List ℕ). length o < length x) (ap text_in (sym i ∙ e)) j)
+        by_cases u (inr e) f = inr e.1

@@ -4,18 +4,13 @@
 --
 -- s is a stream, list a width list, fl a family list (2026-01), q a query; rs, es and hs are the lent rows of records, entries and record
 -- numbers, o is the lent buffer; r is the answer, and what the rows and the buffer hold afterwards has a prime.
-use Rattle.std.specs.Prelude.{ℕ, ◌+◌, ◌*◌, ◌-◌, ◌<◌, ◌≤◌, Bool, true, false, List, [], ◌∷◌, ◌++◌, map, ◌⊎◌, ◌≡◌, ℤ, length, take, drop, if◌then◌else◌}
+use Rattle.std.specs.Prelude.{ℕ, ◌+◌, ◌*◌, ◌-◌, ◌<◌, ◌≤◌, Bool, true, false, List, [], ◌∷◌, ◌++◌, map, ◌⊎◌, ◌≡◌, ℤ, length, take, drop, Result, Ok, Err, IsOk, if◌then◌else◌}
 use Rattle.rules.specs.declared.Record.{Record}
 use Rattle.rules.specs.declared.Entry.{Entry}
-use Rattle.rules.specs.declared.Colour.{Colour}
-use Rattle.rules.specs.declared.ReadAnswer.{ReadAnswer}
-use Rattle.rules.specs.declared.ReadAnswer.TheVariants as R
+use Rattle.rules.specs.declared.Refusal.{Refusal}
 use Rattle.rules.specs.declared.Reading.{Reading}
-use Rattle.rules.specs.declared.Respelling.{Respelling}
-use Rattle.rules.specs.declared.Respelling.TheVariants as S
 use Rattle.rules.specs.declared.Finding.{Finding}
-use Rattle.rules.specs.declared.Finding.TheVariants as F
-use Rattle.rules.specs.declared.Judging.TheVariants as J
+use Rattle.rules.specs.declared.Judging.{Judging}
 use Rattle.rules.specs.declared.NamePart.{NamePart}
 use Rattle.rules.specs.declared.NamePart.TheVariants as N
 use Rattle.rules.specs.Bytes.{bytes, origin}
@@ -27,7 +22,7 @@ use Rattle.rules.specs.Record.{shown, letters_of, colour_of}
 use Rattle.rules.specs.House.{signed_decimal, spelling, spell_all}
 use Rattle.rules.specs.Families.{Family, grouped, family_list}
 use Rattle.rules.specs.Find.{Wanted, Key}
-use Rattle.rules.specs.Answers.{found_in, finding_of, records_found, hits_over}
+use Rattle.rules.specs.Answers.{refusal, found_in, finding_of, records_found, hits_over}
 use Rattle.rules.specs.Calls.{ReadCall, RespellCall, FindCall, JudgeCall, NamePartCall, FirstNameCall}
 use Rattle.laws.specs.Barred.{Barred, NoBarred, SomeBarred}
 use Rattle.laws_arguments.specs.Names.{named_bytes, RefusesBarred}
@@ -144,26 +139,22 @@ drawn x = record {
   v = shown x.spot.v;
 }
 
-abbrev pub IsAccepted : ReadAnswer → Type 0
-IsAccepted (R.Accepted n m pages h v) = Unit {0}
-IsAccepted (R.Refused number at) = ⊥
-
 -- ==== 1
 
 -- "Any bytes, lists and lent rows get an answer." One answer each, and one content of each row and buffer; their lengths stay.
 pub record Answer : Type 0 where
-  pub reader : (s list : List ℕ) (rs : List Record) (es : List Entry) → (r : Reading) × (rs' : List Record) × (es' : List Entry) × ReadCall s list rs es r rs' es'
-  pub reader_one : (s list : List ℕ) (rs : List Record) (es : List Entry) (r r₂ : Reading) (rs' rs₂' : List Record) (es' es₂' : List Entry)
+  pub reader : (s list : List ℕ) (rs : List Record) (es : List Entry) → (r : Result Reading Refusal) × (rs' : List Record) × (es' : List Entry) × ReadCall s list rs es r rs' es'
+  pub reader_one : (s list : List ℕ) (rs : List Record) (es : List Entry) (r r₂ : Result Reading Refusal) (rs' rs₂' : List Record) (es' es₂' : List Entry)
       → ReadCall s list rs es r rs' es' → ReadCall s list rs es r₂ rs₂' es₂' → (r ≡ r₂) × (rs' ≡ rs₂') × (es' ≡ es₂')
-  pub reader_lengths : (s list : List ℕ) (rs : List Record) (es : List Entry) (r : Reading) (rs' : List Record) (es' : List Entry)
+  pub reader_lengths : (s list : List ℕ) (rs : List Record) (es : List Entry) (r : Result Reading Refusal) (rs' : List Record) (es' : List Entry)
       → ReadCall s list rs es r rs' es' → (length rs' ≡ length rs) × (length es' ≡ length es)
-  pub rewriter : (s list o : List ℕ) → (r : Respelling) × (o' : List ℕ) × RespellCall s list o r o'
-  pub rewriter_one : (s list o : List ℕ) (r r₂ : Respelling) (o' o₂' : List ℕ) → RespellCall s list o r o' → RespellCall s list o r₂ o₂' → (r ≡ r₂) × (o' ≡ o₂')
-  pub rewriter_length : (s list o : List ℕ) (r : Respelling) (o' : List ℕ) → RespellCall s list o r o' → length o' ≡ length o
-  pub finder : (s list fl q : List ℕ) (rs : List Record) (hs : List ℕ) → (r : Finding) × (rs' : List Record) × (hs' : List ℕ) × FindCall s list fl q rs hs r rs' hs'
-  pub finder_one : (s list fl q : List ℕ) (rs : List Record) (hs : List ℕ) (r r₂ : Finding) (rs' rs₂' : List Record) (hs' hs₂' : List ℕ)
+  pub rewriter : (s list o : List ℕ) → (r : Result ℕ Refusal) × (o' : List ℕ) × RespellCall s list o r o'
+  pub rewriter_one : (s list o : List ℕ) (r r₂ : Result ℕ Refusal) (o' o₂' : List ℕ) → RespellCall s list o r o' → RespellCall s list o r₂ o₂' → (r ≡ r₂) × (o' ≡ o₂')
+  pub rewriter_length : (s list o : List ℕ) (r : Result ℕ Refusal) (o' : List ℕ) → RespellCall s list o r o' → length o' ≡ length o
+  pub finder : (s list fl q : List ℕ) (rs : List Record) (hs : List ℕ) → (r : Result Finding Refusal) × (rs' : List Record) × (hs' : List ℕ) × FindCall s list fl q rs hs r rs' hs'
+  pub finder_one : (s list fl q : List ℕ) (rs : List Record) (hs : List ℕ) (r r₂ : Result Finding Refusal) (rs' rs₂' : List Record) (hs' hs₂' : List ℕ)
       → FindCall s list fl q rs hs r rs' hs' → FindCall s list fl q rs hs r₂ rs₂' hs₂' → (r ≡ r₂) × (rs' ≡ rs₂') × (hs' ≡ hs₂')
-  pub finder_lengths : (s list fl q : List ℕ) (rs : List Record) (hs : List ℕ) (r : Finding) (rs' : List Record) (hs' : List ℕ)
+  pub finder_lengths : (s list fl q : List ℕ) (rs : List Record) (hs : List ℕ) (r : Result Finding Refusal) (rs' : List Record) (hs' : List ℕ)
       → FindCall s list fl q rs hs r rs' hs' → (length rs' ≡ length rs) × (length hs' ≡ length hs)
 
 -- "The reader, rewriter and finder each accept, or refuse with a number and an offset from the table in 01." (An answer is the one or the
@@ -173,12 +164,12 @@ pub record Answer : Type 0 where
 -- (2026-01: "a wrong list is refused as 14, offset of its first wrong line or its length where a line is missing at the end") are the
 -- finder's alone: the reader and the rewriter have no query and no family list, so empty ones stand in their `Said`.
 pub record Refuse : Type 0 where
-  pub reader : (s list : List ℕ) (rs : List Record) (es : List Entry) (r : Reading) (rs' : List Record) (es' : List Entry) (number at : ℕ)
-      → ReadCall s list rs es r rs' es' → r.answer ≡ R.Refused number at → OrRoom (ReadOffset s list) number at × Said s list [] [] number at × (number ≡ 12 → ⊥) × (number ≡ 14 → ⊥)
-  pub rewriter : (s list o : List ℕ) (o' : List ℕ) (number at : ℕ) → RespellCall s list o (S.Refused number at) o'
+  pub reader : (s list : List ℕ) (rs : List Record) (es : List Entry) (rs' : List Record) (es' : List Entry) (number at : ℕ)
+      → ReadCall s list rs es (Err (refusal number at)) rs' es' → OrRoom (ReadOffset s list) number at × Said s list [] [] number at × (number ≡ 12 → ⊥) × (number ≡ 14 → ⊥)
+  pub rewriter : (s list o : List ℕ) (o' : List ℕ) (number at : ℕ) → RespellCall s list o (Err (refusal number at)) o'
       → OrRoom (ReadOffset s list) number at × Said s list [] [] number at × (number ≡ 12 → ⊥) × (number ≡ 14 → ⊥)
   pub finder : (s list fl q : List ℕ) (rs : List Record) (hs : List ℕ) (rs' : List Record) (hs' : List ℕ) (number at : ℕ)
-      → FindCall s list fl q rs hs (F.Refused number at) rs' hs' → OrRoom (FindOffset s list fl q) number at × Said s list fl q number at
+      → FindCall s list fl q rs hs (Err (refusal number at)) rs' hs' → OrRoom (FindOffset s list fl q) number at × Said s list fl q number at
 
 -- 01: "Each is given exactly for its reason." "Order: 1, 2, 12, then the stream from its start; at one command the smallest number. 13
 -- comes last, when all else passed." 2026-01: 14 is "checked after 2 and before 12; over 65,536 bytes it is 1". The other way: where a row
@@ -188,39 +179,31 @@ pub record Refuse : Type 0 where
 -- 7"; `BarredIn`, `laws_arguments`); else one of 7 to 10 as it is performed, the smallest that has its reason (`As01Gives`); and 7 behind
 -- `x s`. For 13 see `NoRoom`.
 pub record RefuseExactly : Type 0 where
-  pub reader : (s list : List ℕ) (rs : List Record) (es : List Entry) (r : Reading) (rs' : List Record) (es' : List Entry) (number at : ℕ)
-      → ReadCall s list rs es r rs' es' → ReadOffset s list number at → r.answer ≡ R.Refused number at
-  pub rewriter : (s list o : List ℕ) (r : Respelling) (o' : List ℕ) (number at : ℕ)
-      → RespellCall s list o r o' → ReadOffset s list number at → r ≡ S.Refused number at
-  pub finder : (s list fl q : List ℕ) (rs : List Record) (hs : List ℕ) (r : Finding) (rs' : List Record) (hs' : List ℕ) (number at : ℕ)
-      → FindCall s list fl q rs hs r rs' hs' → FindOffset s list fl q number at → r ≡ F.Refused number at
+  pub reader : (s list : List ℕ) (rs : List Record) (es : List Entry) (r : Result Reading Refusal) (rs' : List Record) (es' : List Entry) (number at : ℕ)
+      → ReadCall s list rs es r rs' es' → ReadOffset s list number at → r ≡ Err (refusal number at)
+  pub rewriter : (s list o : List ℕ) (r : Result ℕ Refusal) (o' : List ℕ) (number at : ℕ)
+      → RespellCall s list o r o' → ReadOffset s list number at → r ≡ Err (refusal number at)
+  pub finder : (s list fl q : List ℕ) (rs : List Record) (hs : List ℕ) (r : Result Finding Refusal) (rs' : List Record) (hs' : List ℕ) (number at : ℕ)
+      → FindCall s list fl q rs hs r rs' hs' → FindOffset s list fl q number at → r ≡ Err (refusal number at)
 
 -- "A refusal leaves every row and buffer holding what it held before."
 pub record LeaveAlone : Type 0 where
-  pub reader : (s list : List ℕ) (rs : List Record) (es : List Entry) (r : Reading) (rs' : List Record) (es' : List Entry) (number at : ℕ)
-      → ReadCall s list rs es r rs' es' → r.answer ≡ R.Refused number at → (rs' ≡ rs) × (es' ≡ es)
-  pub rewriter : (s list o : List ℕ) (o' : List ℕ) (number at : ℕ) → RespellCall s list o (S.Refused number at) o' → o' ≡ o
+  pub reader : (s list : List ℕ) (rs : List Record) (es : List Entry) (rs' : List Record) (es' : List Entry) (number at : ℕ)
+      → ReadCall s list rs es (Err (refusal number at)) rs' es' → (rs' ≡ rs) × (es' ≡ es)
+  pub rewriter : (s list o : List ℕ) (o' : List ℕ) (number at : ℕ) → RespellCall s list o (Err (refusal number at)) o' → o' ≡ o
   pub finder : (s list fl q : List ℕ) (rs : List Record) (hs : List ℕ) (rs' : List Record) (hs' : List ℕ) (number at : ℕ)
-      → FindCall s list fl q rs hs (F.Refused number at) rs' hs' → (rs' ≡ rs) × (hs' ≡ hs)
-
--- A refusal of the reader tells the default scheme, `d`, with four zeros as both colours (house).
-abbrev pub default_colour : Colour
-default_colour = record { scheme = 100; parts = 0 ∷ 0 ∷ 0 ∷ 0 ∷ [] }
-
-abbrev pub RefusedColours : Type 0
-RefusedColours = (s list : List ℕ) (rs : List Record) (es : List Entry) (r : Reading) (rs' : List Record) (es' : List Entry) (number at : ℕ)
-    → ReadCall s list rs es r rs' es' → r.answer ≡ R.Refused number at → (r.glyph ≡ default_colour) × (r.fill ≡ default_colour)
+      → FindCall s list fl q rs hs (Err (refusal number at)) rs' hs' → (rs' ≡ rs) × (hs' ≡ hs)
 
 -- ==== 2
 
 -- "With a sound width list and rows large enough, a stream is accepted exactly when groff_out(5), as 01 fixes it, allows it." Large enough
 -- are "rows with a place for each record and .. entry".
 pub record AcceptExactly : Type 0 where
-  pub where_allowed : (s list : List ℕ) (rs : List Record) (es : List Entry) (r : Reading) (rs' : List Record) (es' : List Entry) (w : Widths) (end : Env) (gs : List Glyph) (xs : List Item)
+  pub where_allowed : (s list : List ℕ) (rs : List Record) (es : List Entry) (r : Result Reading Refusal) (rs' : List Record) (es' : List Entry) (w : Widths) (end : Env) (gs : List Glyph) (xs : List Item)
       → ReadCall s list rs es r rs' es' → SoundList list w → length gs ≤ length rs → length xs ≤ length es
-      → Allowed s w end gs xs → IsAccepted r.answer
-  pub only_where_allowed : (s list : List ℕ) (rs : List Record) (es : List Entry) (r : Reading) (rs' : List Record) (es' : List Entry)
-      → ReadCall s list rs es r rs' es' → IsAccepted r.answer
+      → Allowed s w end gs xs → IsOk r
+  pub only_where_allowed : (s list : List ℕ) (rs : List Record) (es : List Entry) (r : Result Reading Refusal) (rs' : List Record) (es' : List Entry)
+      → ReadCall s list rs es r rs' es' → IsOk r
       → (w : Widths) × (end : Env) × (gs : List Glyph) × (xs : List Item) × SoundList list w × Allowed s w end gs xs × (length gs ≤ length rs) × (length xs ≤ length es)
 
 -- 2026-06: "Refuse any byte 0 to 8, 11 to 31 or 127 in a name or a glyph, also in a `t` or `u` word, as 16. .. Demand 2 reads "exactly when"
@@ -263,17 +246,23 @@ Framed = (s : List ℕ) (w : Widths) (end : Env) (gs : List Glyph) (xs : List It
 -- "Each glyph is then recorded once, in order, with the name, page, place, font and size 01 gives it." Each drawing and control is entered
 -- once, in order. Where names stand in the stream is said in `NamesInPlace`; where entries do, and their lengths, in `EntriesInPlace`. The
 -- answer tells how many of each, the pages, the end position and both colours; and what lies behind them is kept.
-pub record RecordedAll (s : List ℕ) (end : Env) (gs : List Glyph) (xs : List Item) (rs : List Record) (es : List Entry) (r : Reading) (rs' : List Record) (es' : List Entry) : Type 0 where
+pub record RecordedAll (s : List ℕ) (end : Env) (gs : List Glyph) (xs : List Item) (rs : List Record) (es : List Entry) (r : Result Reading Refusal) (rs' : List Record) (es' : List Entry) : Type 0 where
   pub glyphs : map (recorded s) (take (length gs) rs') ≡ map set gs
   pub drawings_and_controls : map entered (take (length xs) es') ≡ map drawn xs
-  pub answer : r.answer ≡ R.Accepted (length gs) (length xs) end.ordinal (shown end.spot.h) (shown end.spot.v)
-  pub glyph_colour : r.glyph ≡ colour_of end.glyph_paint
-  pub fill_colour : r.fill ≡ colour_of end.fill_paint
+  pub answer : r ≡ Ok (record {
+    records = length gs;
+    entries = length xs;
+    pages = end.ordinal;
+    h = shown end.spot.h;
+    v = shown end.spot.v;
+    glyph = colour_of end.glyph_paint;
+    fill = colour_of end.fill_paint;
+  })
   pub records_behind : drop (length gs) rs' ≡ drop (length gs) rs
   pub entries_behind : drop (length xs) es' ≡ drop (length xs) es
 
 abbrev pub RecordEach : Type 0
-RecordEach = (s list : List ℕ) (rs : List Record) (es : List Entry) (r : Reading) (rs' : List Record) (es' : List Entry) (w : Widths) (end : Env) (gs : List Glyph) (xs : List Item)
+RecordEach = (s list : List ℕ) (rs : List Record) (es : List Entry) (r : Result Reading Refusal) (rs' : List Record) (es' : List Entry) (w : Widths) (end : Env) (gs : List Glyph) (xs : List Item)
     → ReadCall s list rs es r rs' es' → SoundList list w → length gs ≤ length rs → length xs ≤ length es → Allowed s w end gs xs → RecordedAll s end gs xs rs es r rs' es'
 
 -- "name (its place and length in the stream)": the place is in the very command that set the glyph. These names stand one behind the other
@@ -295,7 +284,7 @@ name_places s cs (comment k r cs' n h c) at = name_places r cs' c (at + 1 + leng
 name_places s cs (one b r d name len cs' w h e c) at = stand_from (at + name) (names_of d) ++ name_places (drop (len - 1) r) cs' c (at + len)
 
 abbrev pub NamesInPlace : Type 0
-NamesInPlace = (s list : List ℕ) (rs : List Record) (es : List Entry) (r : Reading) (rs' : List Record) (es' : List Entry) (w : Widths) (end : Env) (gs : List Glyph) (xs : List Item)
+NamesInPlace = (s list : List ℕ) (rs : List Record) (es : List Entry) (r : Result Reading Refusal) (rs' : List Record) (es' : List Entry) (w : Widths) (end : Env) (gs : List Glyph) (xs : List Item)
     → ReadCall s list rs es r rs' es' → SoundList list w → length gs ≤ length rs → length xs ≤ length es → (a : Allowed s w end gs xs)
     → map (λ (k : Record). k.place) (take (length gs) rs') ≡ name_places s a.commands a.consists 0
 
@@ -322,7 +311,7 @@ entry_places s cs (comment k r cs' n h c) at = entry_places r cs' c (at + 1 + le
 entry_places s cs (one b r d name len cs' w h e c) at = (if is_entered d then record { place = at; len = len } ∷ [] else []) ++ entry_places (drop (len - 1) r) cs' c (at + len)
 
 abbrev pub EntriesInPlace : Type 0
-EntriesInPlace = (s list : List ℕ) (rs : List Record) (es : List Entry) (r : Reading) (rs' : List Record) (es' : List Entry) (w : Widths) (end : Env) (gs : List Glyph) (xs : List Item)
+EntriesInPlace = (s list : List ℕ) (rs : List Record) (es : List Entry) (r : Result Reading Refusal) (rs' : List Record) (es' : List Entry) (w : Widths) (end : Env) (gs : List Glyph) (xs : List Item)
     → ReadCall s list rs es r rs' es' → SoundList list w → length gs ≤ length rs → length xs ≤ length es → (a : Allowed s w end gs xs)
     → map stretch (take (length xs) es') ≡ entry_places s a.commands a.consists 0
 
@@ -392,24 +381,24 @@ abbrev pub house_spelling : Widths → List Cmd → List ℕ
 house_spelling w cs = spell_all (spelling w cs)
 
 pub record GiveHouseSpelling : Type 0 where
-  pub where_allowed : (s list o : List ℕ) (r : Respelling) (o' : List ℕ) (w : Widths) (end : Env) (gs : List Glyph) (xs : List Item)
+  pub where_allowed : (s list o : List ℕ) (r : Result ℕ Refusal) (o' : List ℕ) (w : Widths) (end : Env) (gs : List Glyph) (xs : List Item)
       → RespellCall s list o r o' → SoundList list w → (a : Allowed s w end gs xs)
       → length (house_spelling w a.commands) ≤ 16_777_216 → length (house_spelling w a.commands) ≤ length o
-      → (r ≡ S.Accepted (length (house_spelling w a.commands))) × (o' ≡ house_spelling w a.commands ++ drop (length (house_spelling w a.commands)) o)
-  pub only_where_allowed : (s list o : List ℕ) (n : ℕ) (o' : List ℕ) → RespellCall s list o (S.Accepted n) o'
+      → (r ≡ Ok (length (house_spelling w a.commands))) × (o' ≡ house_spelling w a.commands ++ drop (length (house_spelling w a.commands)) o)
+  pub only_where_allowed : (s list o : List ℕ) (n : ℕ) (o' : List ℕ) → RespellCall s list o (Ok n) o'
       → (w : Widths) × (end : Env) × (gs : List Glyph) × (xs : List Item) × SoundList list w × (a : Allowed s w end gs xs) × (take n o' ≡ house_spelling w a.commands) × (length (take n o') ≡ n)
   -- "Every command but motions is kept in order, repeats too. `t`, `u` and two-digit commands become single glyphs": `all_kept` leaves motions
   -- out, and has single glyphs for these
-  pub keeps : (s list o : List ℕ) (n : ℕ) (o' : List ℕ) → RespellCall s list o (S.Accepted n) o'
+  pub keeps : (s list o : List ℕ) (n : ℕ) (o' : List ℕ) → RespellCall s list o (Ok n) o'
       → (w : Widths) (end : Env) (gs : List Glyph) (xs : List Item) → SoundList list w → (a : Allowed s w end gs xs) (b : Allowed (take n o') w end gs xs)
       → all_kept b.commands ≡ all_kept a.commands
   -- "Before a glyph, `N`, any `D`, `x X` or `x s`, `H` and then `V` are written": before each of these a reader of the spelling has the
   -- place of a reader of the stream
-  pub places : (s list o : List ℕ) (n : ℕ) (o' : List ℕ) → RespellCall s list o (S.Accepted n) o'
+  pub places : (s list o : List ℕ) (n : ℕ) (o' : List ℕ) → RespellCall s list o (Ok n) o'
       → (w : Widths) (end : Env) (gs : List Glyph) (xs : List Item) → SoundList list w → (a : Allowed s w end gs xs) (b : Allowed (take n o') w end gs xs)
       → spots_of w start b.commands ≡ spots_of w start a.commands
-  pub in_house_lines : (s list o : List ℕ) (n : ℕ) (o' : List ℕ) → RespellCall s list o (S.Accepted n) o' → HouseText (take n o')
-  pub no_motion_in_vain : (s list o : List ℕ) (n : ℕ) (o' : List ℕ) → RespellCall s list o (S.Accepted n) o'
+  pub in_house_lines : (s list o : List ℕ) (n : ℕ) (o' : List ℕ) → RespellCall s list o (Ok n) o' → HouseText (take n o')
+  pub no_motion_in_vain : (s list o : List ℕ) (n : ℕ) (o' : List ℕ) → RespellCall s list o (Ok n) o'
       → (xs : List Act) (x : Axis) (k : ℕ) (ys : List Act) → ConsistsOf (take n o') (map just (xs ++ to x k ∷ ys)) → OnlyWhereItDiffers list (take n o') xs x k ys
 
 -- "Whenever it gives one, reading that spelling yields the same glyphs, drawings, controls, pages and end position": the very same, names
@@ -417,18 +406,18 @@ pub record GiveHouseSpelling : Type 0 where
 -- the same, with the same rows but for places in the stream and the lengths of entries
 pub record ReadTheSame (s list t : List ℕ) : Type 0 where
   pub allowed : (w : Widths) (end : Env) (gs : List Glyph) (xs : List Item) → SoundList list w → Allowed s w end gs xs → Allowed t w end gs xs
-  pub rows : (rs : List Record) (es : List Entry) (r : Reading) (rs' : List Record) (es' : List Entry) (n m pages : ℕ) (h v : ℤ)
-      → ReadCall s list rs es r rs' es' → r.answer ≡ R.Accepted n m pages h v
-      → (rs₂ : List Record) (es₂ : List Entry) (r₂ : Reading) (rs₂' : List Record) (es₂' : List Entry) → ReadCall t list rs₂ es₂ r₂ rs₂' es₂' → n ≤ length rs₂ → m ≤ length es₂
-      → (r₂ ≡ r) × (map (recorded t) (take n rs₂') ≡ map (recorded s) (take n rs')) × (map entered (take m es₂') ≡ map entered (take m es'))
+  pub rows : (rs : List Record) (es : List Entry) (a : Reading) (rs' : List Record) (es' : List Entry) → ReadCall s list rs es (Ok a) rs' es'
+      → (rs₂ : List Record) (es₂ : List Entry) (r₂ : Result Reading Refusal) (rs₂' : List Record) (es₂' : List Entry)
+      → ReadCall t list rs₂ es₂ r₂ rs₂' es₂' → a.records ≤ length rs₂ → a.entries ≤ length es₂
+      → (r₂ ≡ Ok a) × (map (recorded t) (take a.records rs₂') ≡ map (recorded s) (take a.records rs')) × (map entered (take a.entries es₂') ≡ map entered (take a.entries es'))
 
 abbrev pub SpellingReadsTheSame : Type 0
-SpellingReadsTheSame = (s list o : List ℕ) (n : ℕ) (o' : List ℕ) → RespellCall s list o (S.Accepted n) o' → ReadTheSame s list (take n o')
+SpellingReadsTheSame = (s list o : List ℕ) (n : ℕ) (o' : List ℕ) → RespellCall s list o (Ok n) o' → ReadTheSame s list (take n o')
 
 -- "and rewriting it changes nothing."
 abbrev pub RewritingChangesNothing : Type 0
-RewritingChangesNothing = (s list o : List ℕ) (n : ℕ) (o' : List ℕ) → RespellCall s list o (S.Accepted n) o'
-    → (o₂ : List ℕ) (r₂ : Respelling) (o₂' : List ℕ) → RespellCall (take n o') list o₂ r₂ o₂' → n ≤ length o₂ → (r₂ ≡ S.Accepted n) × (take n o₂' ≡ take n o')
+RewritingChangesNothing = (s list o : List ℕ) (n : ℕ) (o' : List ℕ) → RespellCall s list o (Ok n) o'
+    → (o₂ : List ℕ) (r₂ : Result ℕ Refusal) (o₂' : List ℕ) → RespellCall (take n o') list o₂ r₂ o₂' → n ≤ length o₂ → (r₂ ≡ Ok n) × (take n o₂' ≡ take n o')
 
 -- ==== 3
 
@@ -464,18 +453,22 @@ pub record ListOf (fs : List Family) (qs : List Wanted) (gs : List Glyph) (is : 
   pub no_other : (i : ℕ) → Elem i is → OccursAt fs qs (map looked gs) i
   pub each_once_earliest_first : Rising is
 
+-- the finder's answer of so many records and so many hits
+abbrev pub counted : ℕ → ℕ → Result Finding Refusal
+counted records hits = Ok (record { records = records; hits = hits })
+
 -- "For any stream accepted with its width list, any well-formed query and rows large enough, whatever they held before, the finder's list
 -- is exactly this: .. The number of records it answers is the stream's, and the number of hits is that list's length." 2026-01: "demand 3
 -- with a sound family list". The records are in the row, and what lies behind records and list is kept.
-pub record FoundAll (s : List ℕ) (rs : List Record) (hs : List ℕ) (gs : List Glyph) (is : List ℕ) (r : Finding) (rs' : List Record) (hs' : List ℕ) : Type 0 where
+pub record FoundAll (s : List ℕ) (rs : List Record) (hs : List ℕ) (gs : List Glyph) (is : List ℕ) (r : Result Finding Refusal) (rs' : List Record) (hs' : List ℕ) : Type 0 where
   pub list : take (length is) hs' ≡ is
-  pub numbers : r ≡ F.Accepted (length gs) (length is)
+  pub numbers : r ≡ counted (length gs) (length is)
   pub records : map (recorded s) (take (length gs) rs') ≡ map set gs
   pub list_behind : drop (length is) hs' ≡ drop (length is) hs
   pub records_behind : drop (length gs) rs' ≡ drop (length gs) rs
 
 pub record FindExactly : Type 0 where
-  pub answered : (s list fl q : List ℕ) (rs : List Record) (hs : List ℕ) (r : Finding) (rs' : List Record) (hs' : List ℕ) (fs : List Family) (gs : List Glyph) (qs : List Wanted) (is : List ℕ)
+  pub answered : (s list fl q : List ℕ) (rs : List Record) (hs : List ℕ) (r : Result Finding Refusal) (rs' : List Record) (hs' : List ℕ) (fs : List Family) (gs : List Glyph) (qs : List Wanted) (is : List ℕ)
       → FindCall s list fl q rs hs r rs' hs' → SoundFamilies fl fs → Accepted s list gs → WellFormed q qs → ListOf fs qs gs is → length gs ≤ length rs → length is ≤ length hs
       → FoundAll s rs hs gs is r rs' hs'
   -- What is looked at goes by the commands alone: names, gap marks and page ordinals are those of the outline (`laws_read`, Outline.antt),
@@ -485,16 +478,16 @@ pub record FindExactly : Type 0 where
   pub some : (fl : List ℕ) (fs : List Family) (qs : List Wanted) (gs : List Glyph) → SoundFamilies fl fs → GoodQuery qs → (is : List ℕ) × ListOf fs qs gs is
   pub one : (fs : List Family) (qs : List Wanted) (gs : List Glyph) (is is₂ : List ℕ) → ListOf fs qs gs is → ListOf fs qs gs is₂ → is ≡ is₂
   -- "the record row, which it fills as the reader does": the very same row, place by place
-  pub as_the_reader : (s list fl q : List ℕ) (rs : List Record) (hs : List ℕ) (n k : ℕ) (rs' : List Record) (hs' : List ℕ) (es : List Entry) (r : Reading) (rs₂' : List Record) (es' : List Entry)
-      → FindCall s list fl q rs hs (F.Accepted n k) rs' hs' → ReadCall s list rs es r rs₂' es' → IsAccepted r.answer → rs' ≡ rs₂'
+  pub as_the_reader : (s list fl q : List ℕ) (rs : List Record) (hs : List ℕ) (f : Finding) (rs' : List Record) (hs' : List ℕ) (es : List Entry) (a : Reading) (rs₂' : List Record) (es' : List Entry)
+      → FindCall s list fl q rs hs (Ok f) rs' hs' → ReadCall s list rs es (Ok a) rs₂' es' → rs' ≡ rs₂'
   -- and nothing else is ever accepted
-  pub only : (s list fl q : List ℕ) (rs : List Record) (hs : List ℕ) (n k : ℕ) (rs' : List Record) (hs' : List ℕ) → FindCall s list fl q rs hs (F.Accepted n k) rs' hs'
+  pub only : (s list fl q : List ℕ) (rs : List Record) (hs : List ℕ) (f : Finding) (rs' : List Record) (hs' : List ℕ) → FindCall s list fl q rs hs (Ok f) rs' hs'
       → (fs : List Family) × (gs : List Glyph) × (qs : List Wanted) × (is : List ℕ) × SoundFamilies fl fs × Accepted s list gs × WellFormed q qs × ListOf fs qs gs is
-      × FoundAll s rs hs gs is (F.Accepted n k) rs' hs'
+      × FoundAll s rs hs gs is (Ok f) rs' hs'
 
 -- 2026-01: "an empty list gives the old answers". The finder's call as it was before the request: without a family list, and with the rule
 -- that asks for equal name bytes (`old_find`: `laws_answers`, Old.antt).
-pub record OldFindCall (s list q : List ℕ) (rs : List Record) (hs : List ℕ) (r : Finding) (rs' : List Record) (hs' : List ℕ) : Type 0 where
+pub record OldFindCall (s list q : List ℕ) (rs : List Record) (hs : List ℕ) (r : Result Finding Refusal) (rs' : List Record) (hs' : List ℕ) : Type 0 where
   pub answer : r ≡ finding_of (found_in (length rs) (length hs) (old_find s list q))
   pub records : rs' ≡ records_found rs (found_in (length rs) (length hs) (old_find s list q))
   pub hits : hs' ≡ hits_over hs (found_in (length rs) (length hs) (old_find s list q))
@@ -503,10 +496,10 @@ pub record EmptyIsOld : Type 0 where
   -- it is sound, and has no family
   pub empty_sound : SoundFamilies [] []
   -- the same answer and the same content of the rows, refusals included; both ways
-  pub is_old : (s list q : List ℕ) (rs : List Record) (hs : List ℕ) (r : Finding) (rs' : List Record) (hs' : List ℕ) → FindCall s list [] q rs hs r rs' hs' → OldFindCall s list q rs hs r rs' hs'
-  pub was_so : (s list q : List ℕ) (rs : List Record) (hs : List ℕ) (r : Finding) (rs' : List Record) (hs' : List ℕ) → OldFindCall s list q rs hs r rs' hs' → FindCall s list [] q rs hs r rs' hs'
+  pub is_old : (s list q : List ℕ) (rs : List Record) (hs : List ℕ) (r : Result Finding Refusal) (rs' : List Record) (hs' : List ℕ) → FindCall s list [] q rs hs r rs' hs' → OldFindCall s list q rs hs r rs' hs'
+  pub was_so : (s list q : List ℕ) (rs : List Record) (hs : List ℕ) (r : Result Finding Refusal) (rs' : List Record) (hs' : List ℕ) → OldFindCall s list q rs hs r rs' hs' → FindCall s list [] q rs hs r rs' hs'
   -- so it is never refused as 14
-  pub never_14 : (s list q : List ℕ) (rs : List Record) (hs : List ℕ) (rs' : List Record) (hs' : List ℕ) (number at : ℕ) → FindCall s list [] q rs hs (F.Refused number at) rs' hs' → number ≡ 14 → ⊥
+  pub never_14 : (s list q : List ℕ) (rs : List Record) (hs : List ℕ) (rs' : List Record) (hs' : List ℕ) (number at : ℕ) → FindCall s list [] q rs hs (Err (refusal number at)) rs' hs' → number ≡ 14 → ⊥
   -- names match where their bytes are equal, and only there; a query occurs where it did
   pub match : (n m : List ℕ) → Match [] n m → n ≡ m
   pub matches : (n m : List ℕ) → n ≡ m → Match [] n m
@@ -551,18 +544,18 @@ pub record FiveForms : Type 0 where
       → command (48 + d) (k ++ (48 + e) ∷ (l ++ b ∷ t)) ≡ got (pair (origin + (10 * d + e)) b) (2 + length k + length l) (3 + length k + length l)
 
 -- the same answer, and the same list where one is given
-pub record SameList (r r₂ : Finding) (hs' hs₂' : List ℕ) : Type 0 where
+pub record SameList (r r₂ : Result Finding Refusal) (hs' hs₂' : List ℕ) : Type 0 where
   pub numbers : r ≡ r₂
-  pub list : (n k : ℕ) → r ≡ F.Accepted n k → take k hs' ≡ take k hs₂'
+  pub list : (f : Finding) → r ≡ Ok f → take f.hits hs' ≡ take f.hits hs₂'
 
 -- 2026-01: "demand 3 with a sound family list, the same one for both streams it compares"
 pub record ByAnyCommand : Type 0 where
   pub forms : FiveForms
-  pub no_difference : (s list s₂ list₂ fl q : List ℕ) (rs rs₂ : List Record) (hs hs₂ : List ℕ) (r r₂ : Finding) (rs' rs₂' : List Record) (hs' hs₂' : List ℕ) (fs : List Family) (gs gs₂ : List Glyph) (qs : List Wanted) (is : List ℕ)
+  pub no_difference : (s list s₂ list₂ fl q : List ℕ) (rs rs₂ : List Record) (hs hs₂ : List ℕ) (r r₂ : Result Finding Refusal) (rs' rs₂' : List Record) (hs' hs₂' : List ℕ) (fs : List Family) (gs gs₂ : List Glyph) (qs : List Wanted) (is : List ℕ)
       → (a : Accepted s list gs) → (a₂ : Accepted s₂ list₂ gs₂) → SetOtherwise a.allowed.commands a₂.allowed.commands
       → FindCall s list fl q rs hs r rs' hs' → FindCall s₂ list₂ fl q rs₂ hs₂ r₂ rs₂' hs₂' → SoundFamilies fl fs → WellFormed q qs → ListOf fs qs gs is
       → length gs ≤ length rs → length gs₂ ≤ length rs₂ → length is ≤ length hs → length is ≤ length hs₂
-      → SameList r r₂ hs' hs₂' × (r ≡ F.Accepted (length gs) (length is))
+      → SameList r r₂ hs' hs₂' × (r ≡ counted (length gs) (length is))
 
 -- "Take any two accepted streams, each with its own width list, that have equally many records, record by record alike in name bytes, gap
 -- mark and page ordinal. On both, with rows large enough, every well-formed query gives the same list and the same numbers." 2026-01: "with a
@@ -574,11 +567,11 @@ Alike (g ∷ gs) [] = ⊥
 Alike (g ∷ gs) (g₂ ∷ gs₂) = (g.name ≡ g₂.name) × (g.gap ≡ g₂.gap) × (g.ordinal ≡ g₂.ordinal) × Alike gs gs₂
 
 abbrev pub AlikeAnswerAlike : Type 0
-AlikeAnswerAlike = (s list s₂ list₂ fl q : List ℕ) (rs rs₂ : List Record) (hs hs₂ : List ℕ) (r r₂ : Finding) (rs' rs₂' : List Record) (hs' hs₂' : List ℕ) (fs : List Family) (gs gs₂ : List Glyph) (qs : List Wanted) (is : List ℕ)
+AlikeAnswerAlike = (s list s₂ list₂ fl q : List ℕ) (rs rs₂ : List Record) (hs hs₂ : List ℕ) (r r₂ : Result Finding Refusal) (rs' rs₂' : List Record) (hs' hs₂' : List ℕ) (fs : List Family) (gs gs₂ : List Glyph) (qs : List Wanted) (is : List ℕ)
     → Accepted s list gs → Accepted s₂ list₂ gs₂ → Alike gs gs₂
     → FindCall s list fl q rs hs r rs' hs' → FindCall s₂ list₂ fl q rs₂ hs₂ r₂ rs₂' hs₂' → SoundFamilies fl fs → WellFormed q qs → ListOf fs qs gs is
     → length gs ≤ length rs → length gs₂ ≤ length rs₂ → length is ≤ length hs → length is ≤ length hs₂
-    → SameList r r₂ hs' hs₂' × (r ≡ F.Accepted (length gs) (length is))
+    → SameList r r₂ hs' hs₂' × (r ≡ counted (length gs) (length is))
 
 -- "Two names match if they are equal or in one family. .. demand 3, read so from now on": the same of streams that are record by record alike
 -- but for names of one family
@@ -589,11 +582,11 @@ AlikeByFamilies fs (g ∷ gs) [] = ⊥
 AlikeByFamilies fs (g ∷ gs) (g₂ ∷ gs₂) = Match fs g.name g₂.name × (g.gap ≡ g₂.gap) × (g.ordinal ≡ g₂.ordinal) × AlikeByFamilies fs gs gs₂
 
 abbrev pub FamiliesAnswerAlike : Type 0
-FamiliesAnswerAlike = (s list s₂ list₂ fl q : List ℕ) (rs rs₂ : List Record) (hs hs₂ : List ℕ) (r r₂ : Finding) (rs' rs₂' : List Record) (hs' hs₂' : List ℕ) (fs : List Family) (gs gs₂ : List Glyph) (qs : List Wanted) (is : List ℕ)
+FamiliesAnswerAlike = (s list s₂ list₂ fl q : List ℕ) (rs rs₂ : List Record) (hs hs₂ : List ℕ) (r r₂ : Result Finding Refusal) (rs' rs₂' : List Record) (hs' hs₂' : List ℕ) (fs : List Family) (gs gs₂ : List Glyph) (qs : List Wanted) (is : List ℕ)
     → Accepted s list gs → Accepted s₂ list₂ gs₂ → AlikeByFamilies fs gs gs₂
     → FindCall s list fl q rs hs r rs' hs' → FindCall s₂ list₂ fl q rs₂ hs₂ r₂ rs₂' hs₂' → SoundFamilies fl fs → WellFormed q qs → ListOf fs qs gs is
     → length gs ≤ length rs → length gs₂ ≤ length rs₂ → length is ≤ length hs → length is ≤ length hs₂
-    → SameList r r₂ hs' hs₂' × (r ≡ F.Accepted (length gs) (length is))
+    → SameList r r₂ hs' hs₂' × (r ≡ counted (length gs) (length is))
 
 -- ==== 2026-01: the first name for a record
 
@@ -657,25 +650,25 @@ pub record FirstNames : Type 0 where
 -- refusal 13: "records, entries, hits or spelling need more room than lent, or the spelling is over 16,777,216 bytes; offset 0". "13 comes
 -- last, when all else passed", and "is given exactly for its reason".
 pub record NoRoom : Type 0 where
-  pub reader : (s list : List ℕ) (rs : List Record) (es : List Entry) (r : Reading) (rs' : List Record) (es' : List Entry) (w : Widths) (end : Env) (gs : List Glyph) (xs : List Item)
-      → ReadCall s list rs es r rs' es' → SoundList list w → Allowed s w end gs xs → (length rs < length gs) ⊎ (length es < length xs) → r.answer ≡ R.Refused 13 0
-  pub reader_only : (s list : List ℕ) (rs : List Record) (es : List Entry) (r : Reading) (rs' : List Record) (es' : List Entry) (at : ℕ) → ReadCall s list rs es r rs' es' → r.answer ≡ R.Refused 13 at
+  pub reader : (s list : List ℕ) (rs : List Record) (es : List Entry) (r : Result Reading Refusal) (rs' : List Record) (es' : List Entry) (w : Widths) (end : Env) (gs : List Glyph) (xs : List Item)
+      → ReadCall s list rs es r rs' es' → SoundList list w → Allowed s w end gs xs → (length rs < length gs) ⊎ (length es < length xs) → r ≡ Err (refusal 13 0)
+  pub reader_only : (s list : List ℕ) (rs : List Record) (es : List Entry) (rs' : List Record) (es' : List Entry) (at : ℕ) → ReadCall s list rs es (Err (refusal 13 at)) rs' es'
       → (w : Widths) × (end : Env) × (gs : List Glyph) × (xs : List Item) × SoundList list w × Allowed s w end gs xs × ((length rs < length gs) ⊎ (length es < length xs))
-  pub rewriter : (s list o : List ℕ) (r : Respelling) (o' : List ℕ) (w : Widths) (end : Env) (gs : List Glyph) (xs : List Item)
+  pub rewriter : (s list o : List ℕ) (r : Result ℕ Refusal) (o' : List ℕ) (w : Widths) (end : Env) (gs : List Glyph) (xs : List Item)
       → RespellCall s list o r o' → SoundList list w → (a : Allowed s w end gs xs)
-      → (length o < length (house_spelling w a.commands)) ⊎ (16_777_216 < length (house_spelling w a.commands)) → r ≡ S.Refused 13 0
-  pub rewriter_only : (s list o o' : List ℕ) (at : ℕ) → RespellCall s list o (S.Refused 13 at) o'
+      → (length o < length (house_spelling w a.commands)) ⊎ (16_777_216 < length (house_spelling w a.commands)) → r ≡ Err (refusal 13 0)
+  pub rewriter_only : (s list o o' : List ℕ) (at : ℕ) → RespellCall s list o (Err (refusal 13 at)) o'
       → (w : Widths) × (end : Env) × (gs : List Glyph) × (xs : List Item) × SoundList list w × (a : Allowed s w end gs xs) × ((length o < length (house_spelling w a.commands)) ⊎ (16_777_216 < length (house_spelling w a.commands)))
-  pub finder : (s list fl q : List ℕ) (rs : List Record) (hs : List ℕ) (r : Finding) (rs' : List Record) (hs' : List ℕ) (fs : List Family) (gs : List Glyph) (qs : List Wanted) (is : List ℕ)
-      → FindCall s list fl q rs hs r rs' hs' → SoundFamilies fl fs → Accepted s list gs → WellFormed q qs → ListOf fs qs gs is → (length rs < length gs) ⊎ (length hs < length is) → r ≡ F.Refused 13 0
-  pub finder_only : (s list fl q : List ℕ) (rs : List Record) (hs : List ℕ) (at : ℕ) (rs' : List Record) (hs' : List ℕ) → FindCall s list fl q rs hs (F.Refused 13 at) rs' hs'
+  pub finder : (s list fl q : List ℕ) (rs : List Record) (hs : List ℕ) (r : Result Finding Refusal) (rs' : List Record) (hs' : List ℕ) (fs : List Family) (gs : List Glyph) (qs : List Wanted) (is : List ℕ)
+      → FindCall s list fl q rs hs r rs' hs' → SoundFamilies fl fs → Accepted s list gs → WellFormed q qs → ListOf fs qs gs is → (length rs < length gs) ⊎ (length hs < length is) → r ≡ Err (refusal 13 0)
+  pub finder_only : (s list fl q : List ℕ) (rs : List Record) (hs : List ℕ) (at : ℕ) (rs' : List Record) (hs' : List ℕ) → FindCall s list fl q rs hs (Err (refusal 13 at)) rs' hs'
       → (fs : List Family) × (gs : List Glyph) × (qs : List Wanted) × (is : List ℕ) × SoundFamilies fl fs × Accepted s list gs × WellFormed q qs × ListOf fs qs gs is × ((length rs < length gs) ⊎ (length hs < length is))
 
 -- judging (house) tells the room: how many records and entries, how many pages, and how many bytes the spelling has, one more than the limit
 -- where it is over it; or it refuses as the reader does where there is room
 pub record Judge : Type 0 where
-  pub accepted : (s list : List ℕ) (n m pages len : ℕ) → JudgeCall s list (J.Accepted n m pages len)
-      → (w : Widths) × (end : Env) × (gs : List Glyph) × (xs : List Item) × SoundList list w × (a : Allowed s w end gs xs) × (n ≡ length gs) × (m ≡ length xs) × (pages ≡ end.ordinal)
-      × (((len ≡ length (house_spelling w a.commands)) × (len ≤ 16_777_216)) ⊎ ((len ≡ 16_777_217) × (16_777_216 < length (house_spelling w a.commands))))
-  pub refused : (s list : List ℕ) (number at : ℕ) → JudgeCall s list (J.Refused number at)
-      → (rs : List Record) (es : List Entry) (r : Reading) (rs' : List Record) (es' : List Entry) → ReadCall s list rs es r rs' es' → r.answer ≡ R.Refused number at
+  pub accepted : (s list : List ℕ) (j : Judging) → JudgeCall s list (Ok j)
+      → (w : Widths) × (end : Env) × (gs : List Glyph) × (xs : List Item) × SoundList list w × (a : Allowed s w end gs xs) × (j.records ≡ length gs) × (j.entries ≡ length xs) × (j.pages ≡ end.ordinal)
+      × (((j.spelling ≡ length (house_spelling w a.commands)) × (j.spelling ≤ 16_777_216)) ⊎ ((j.spelling ≡ 16_777_217) × (16_777_216 < length (house_spelling w a.commands))))
+  pub refused : (s list : List ℕ) (number at : ℕ) → JudgeCall s list (Err (refusal number at))
+      → (rs : List Record) (es : List Entry) (r : Result Reading Refusal) (rs' : List Record) (es' : List Entry) → ReadCall s list rs es r rs' es' → r ≡ Err (refusal number at)

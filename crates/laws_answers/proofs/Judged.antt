@@ -1,21 +1,21 @@
 -- What the judge's answer says of reader, rewriter and finder.
+use Rattle.std.specs.Prelude.{Ok, Err}
 use Prim.Native.Nat.{ℕ, suc, ◌+◌, ◌<◌, ◌≤◌}
 use native.Mathlib.Omega.{arith}
-use mathlib.Core.Bool.{Bool, true, false}
+use mathlib.Core.Bool.{true, false}
 use mathlib.Core.List.{List, [], ◌∷◌, map}
 use mathlib.Core.Logic.{inl, inr}
 use mathlib.Core.Path.{◌≡◌, refl, sym, ap, ◌∙◌}
 use lib.ListN.{length}
 use borrow.Author.Tests.{ltb-false, le-ltb}
 use Rattle.rules.specs.declared.Judging.{Judging}
-use Rattle.rules.specs.declared.Judging.TheVariants as J
 use Rattle.rules.specs.Widths.{width_list}
 use Rattle.rules.specs.State.{Env}
 use Rattle.rules.specs.Record.{GlyphRow, ItemRow, Answer, refuse, answer}
 use Rattle.rules.specs.Families.{Family, grouped, family_list}
 use Rattle.rules.specs.Find.{Wanted, sought, hits_from, well_formed, query}
-use Rattle.rules.specs.Answers.{stream_most, is_over, read, is_accepted, read_into, not_spelled, spelled, spell_with, respell, respell_into, Found, not_found, found, key_of, find, found_in, find_into, length_of, judging_of, judge}
-use Rattle.laws.proofs.Cases.{on, no}
+use Rattle.rules.specs.Answers.{stream_most, is_over, read, is_accepted, read_into, not_spelled, spelled, spell_with, respell, respell_into, Found, not_found, found, key_of, find, found_in, find_into, length_of, refusal, judging_of, judge}
+use Rattle.laws.proofs.Cases.{on}
 use Rattle.laws_find.specs.Occurs.{Elem, Above}
 use Rattle.laws_answers.specs.Statements.{Accepted, rows_in, Exact, Judged}
 use Rattle.laws_answers.proofs.Theorems.{exactness, answered, query_text, roomy}
@@ -23,56 +23,32 @@ use Rattle.laws_answers.proofs.Numbers.{numbers, find-not_13}
 
 -- ---- the judge's answer taken apart
 
-abbrev is_good : Judging → Bool
-is_good (J.Accepted r x p t) = true
-is_good (J.Refused n at) = false
-
-abbrev refusal_of : Judging → Answer
-refusal_of (J.Accepted r x p t) = refuse 0 0
-refusal_of (J.Refused n at) = refuse n at
-
-abbrev records_of : Judging → ℕ
-records_of (J.Accepted r x p t) = r
-records_of (J.Refused n at) = 0
-
-abbrev entries_of : Judging → ℕ
-entries_of (J.Accepted r x p t) = x
-entries_of (J.Refused n at) = 0
-
-abbrev pages_of : Judging → ℕ
-pages_of (J.Accepted r x p t) = p
-pages_of (J.Refused n at) = 0
-
-abbrev bytes_of : Judging → ℕ
-bytes_of (J.Accepted r x p t) = t
-bytes_of (J.Refused n at) = 0
-
-refused_as : (u : List ℕ) (a : Answer) (n at : ℕ) → judging_of u a ≡ J.Refused n at → a ≡ refuse n at
-refused_as u (refuse m k) n at h = ap refusal_of h
-refused_as u (answer rs xs e) n at h = no (sym (ap is_good h))
+refused_as : (u : List ℕ) (a : Answer) (n at : ℕ) → judging_of u a ≡ Err (refusal n at) → a ≡ refuse n at
+refused_as u (refuse m k) n at h = grind arith
+refused_as u (answer rs xs e) n at h = grind arith
 
 -- the reader's answer behind an acceptance, and the text that was measured
-record Behind (u : List ℕ) (a : Answer) (r x p t : ℕ) : Type 0 where
+record Behind (u : List ℕ) (a : Answer) (j : Judging) : Type 0 where
   rows : List GlyphRow
   items : List ItemRow
   end : Env
   answered_so : a ≡ answer rows items end
-  records : length rows ≡ r
-  entries : length items ≡ x
-  pages : end.ordinal ≡ p
-  bytes : length_of u ≡ t
+  records : length rows ≡ j.records
+  entries : length items ≡ j.entries
+  pages : end.ordinal ≡ j.pages
+  bytes : length_of u ≡ j.spelling
 
-behind : (u : List ℕ) (a : Answer) (r x p t : ℕ) → judging_of u a ≡ J.Accepted r x p t → Behind u a r x p t
-behind u (refuse n at) r x p t h = no (ap is_good h)
-behind u (answer rs xs e) r x p t h = record {
+behind : (u : List ℕ) (a : Answer) (j : Judging) → judging_of u a ≡ Ok j → Behind u a j
+behind u (refuse n at) j h = grind arith
+behind u (answer rs xs e) j h = record {
   rows = rs;
   items = xs;
   end = e;
   answered_so = refl;
-  records = ap records_of h;
-  entries = ap entries_of h;
-  pages = ap pages_of h;
-  bytes = ap bytes_of h;
+  records = grind arith;
+  entries = grind arith;
+  pages = grind arith;
+  bytes = grind arith;
 }
 
 -- ---- the measured length
@@ -105,29 +81,29 @@ hits_few (i ∷ is) n m l a b =
 -- ---- what it says of a stream
 
 module _ (s list : List ℕ) where
-  refused : (n at : ℕ) → judge s list ≡ J.Refused n at → read s list ≡ refuse n at
+  refused : (n at : ℕ) → judge s list ≡ Err (refusal n at) → read s list ≡ refuse n at
   unfolding judge
   refused n at h = refused_as (spell_with s (width_list list)) (read s list) n at h
 
-  refuses : (n at : ℕ) → read s list ≡ refuse n at → judge s list ≡ J.Refused n at
+  refuses : (n at : ℕ) → read s list ≡ refuse n at → judge s list ≡ Err (refusal n at)
   unfolding judge
   refuses n at h = rw h
 
-  module _ (r x p t : ℕ) (h : judge s list ≡ J.Accepted r x p t) where
-    known : Behind (spell_with s (width_list list)) (read s list) r x p t
+  module _ (j : Judging) (h : judge s list ≡ Ok j) where
+    known : Behind (spell_with s (width_list list)) (read s list) j
     unfolding judge
-    known = behind (spell_with s (width_list list)) (read s list) r x p t h
+    known = behind (spell_with s (width_list list)) (read s list) j h
 
-    accepted : (rs : List GlyphRow) × (xs : List ItemRow) × (e : Env) × (read s list ≡ answer rs xs e) × (length rs ≡ r) × (length xs ≡ x) × (e.ordinal ≡ p)
+    accepted : (rs : List GlyphRow) × (xs : List ItemRow) × (e : Env) × (read s list ≡ answer rs xs e) × (length rs ≡ j.records) × (length xs ≡ j.entries) × (e.ordinal ≡ j.pages)
     accepted = let k = known in (k.rows, k.items, k.end, k.answered_so, k.records, k.entries, k.pages)
 
     is_accepted_lem : Accepted s list
     is_accepted_lem = ap is_accepted known.answered_so
 
-    records_are : length (rows_in (read s list)) ≡ r
+    records_are : length (rows_in (read s list)) ≡ j.records
     records_are = ap (λ (a : Answer). length (rows_in a)) known.answered_so ∙ known.records
 
-    reader : (records entries : ℕ) → r ≤ records → x ≤ entries → read_into records entries s list ≡ read s list
+    reader : (records entries : ℕ) → j.records ≤ records → j.entries ≤ entries → read_into records entries s list ≡ read s list
     reader records entries a b =
         let k = known in
         roomy.reader records entries s list k.rows k.items k.end k.answered_so (rw k.records a) (rw k.entries b) ∙ sym k.answered_so
@@ -137,20 +113,20 @@ module _ (s list : List ℕ) where
     unfolding respell
     given f = rw (known.answered_so, f)
 
-    rewriter : (room : ℕ) → t ≤ stream_most → t ≤ room → (u : List ℕ) × (respell_into room s list ≡ spelled u) × (length u ≡ t)
+    rewriter : (room : ℕ) → j.spelling ≤ stream_most → j.spelling ≤ room → (u : List ℕ) × (respell_into room s list ≡ spelled u) × (length u ≡ j.spelling)
     rewriter room a b =
         let u : List ℕ = spell_with s (width_list list) in
-        let f : (is_over stream_most u ≡ false) × (length u ≡ t) = fits_limit u t known.bytes a in
+        let f : (is_over stream_most u ≡ false) × (length u ≡ j.spelling) = fits_limit u j.spelling known.bytes a in
         (u, roomy.rewriter room s list u (given f.0) (rw f.1 b), f.1)
 
-    rewriter_over : (room : ℕ) → t ≡ suc stream_most → respell_into room s list ≡ not_spelled 13 0
+    rewriter_over : (room : ℕ) → j.spelling ≡ suc stream_most → respell_into room s list ≡ not_spelled 13 0
     unfolding respell_into respell
-    rewriter_over room a = rw (known.answered_so, over_limit (spell_with s (width_list list)) t known.bytes a)
+    rewriter_over room a = rw (known.answered_so, over_limit (spell_with s (width_list list)) j.spelling known.bytes a)
 
-    spelling-most : t ≤ suc stream_most
+    spelling-most : j.spelling ≤ suc stream_most
     spelling-most = rw (← known.bytes) (limit_most (spell_with s (width_list list)))
 
-    module _ (fl q : List ℕ) (records hits : ℕ) (a : r ≤ records) (b : r ≤ hits) where
+    module _ (fl q : List ℕ) (records hits : ℕ) (a : j.records ≤ records) (b : j.records ≤ hits) where
       finder : find_into records hits s list fl q ≡ find s list fl q
       unfolding find_into
       finder = go (find s list fl q) refl
@@ -159,7 +135,7 @@ module _ (s list : List ℕ) where
           go (not_found n at) e = refl
           go (found rs is) e =
               let z : Exact s list fl q rs is = exactness s list fl q rs is e in
-              let c : length rs ≡ r = ap (λ (l : List GlyphRow). length l) (sym z.records) ∙ records_are in
+              let c : length rs ≡ j.records = ap (λ (l : List GlyphRow). length l) (sym z.records) ∙ records_are in
               let d : 0 + length is ≤ length rs = hits_few is 0 (length rs) (omega arith) z.rising z.below in
               rw (le-ltb records (length rs) (omega arith), le-ltb hits (length is) (omega arith))
 
@@ -167,7 +143,7 @@ module _ (s list : List ℕ) where
       finder_never_13 n at e k = find-not_13 s list fl q n at (sym finder ∙ e) k
 
       finder_found : (fs : List Family) (qs : List Wanted) → family_list fl ≡ grouped fs → length fl ≤ 65_536 → query q ≡ well_formed qs
-          → (rs : List GlyphRow) × (is : List ℕ) × (find_into records hits s list fl q ≡ found rs is) × (length rs ≡ r)
+          → (rs : List GlyphRow) × (is : List ℕ) × (find_into records hits s list fl q ≡ found rs is) × (length rs ≡ j.records)
       finder_found fs qs g l e = (
         rows_in (read s list),
         hits_from (map (sought fs) qs) 0 (map key_of (rows_in (read s list))),
@@ -181,11 +157,11 @@ judged = record {
   refuses = refuses;
   numbers = λ s list n at h. numbers.read_numbers s list n at (refused s list n at h);
   accepted = accepted;
-  reader = λ s list r x p t records entries h a b. reader s list r x p t h records entries a b;
-  rewriter = λ s list r x p t room h a b. rewriter s list r x p t h room a b;
-  rewriter_over = λ s list r x p t room h a. rewriter_over s list r x p t h room a;
+  reader = λ s list j records entries h a b. reader s list j h records entries a b;
+  rewriter = λ s list j room h a b. rewriter s list j h room a b;
+  rewriter_over = λ s list j room h a. rewriter_over s list j h room a;
   spelling-most = spelling-most;
-  finder = λ s list fl q r x p t records hits h a b. finder s list r x p t h fl q records hits a b;
-  finder_never_13 = λ s list fl q r x p t records hits n at h a b e k. finder_never_13 s list r x p t h fl q records hits a b n at e k;
-  finder_found = λ s list fl q fs qs r x p t records hits h a b g l e. finder_found s list r x p t h fl q records hits a b fs qs g l e;
+  finder = λ s list fl q j records hits h a b. finder s list j h fl q records hits a b;
+  finder_never_13 = λ s list fl q j records hits n at h a b e k. finder_never_13 s list j h fl q records hits a b n at e k;
+  finder_found = λ s list fl q fs qs j records hits h a b g l e. finder_found s list j h fl q records hits a b fs qs g l e;
 }

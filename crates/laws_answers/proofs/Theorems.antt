@@ -6,7 +6,6 @@ use mathlib.Core.Bool.{Bool, true, false, ◌||◌}
 use mathlib.Core.List.{List, [], ◌∷◌, ◌++◌, map, map-map}
 use mathlib.Core.Logic.{◌⊎◌, inl, inr}
 use mathlib.Core.Path.{◌≡◌, refl, sym, ap, ap₂, ◌∙◌}
-use lib.Dec.{ltb}
 use lib.ListN.{length}
 use borrow.Author.Tests.{ltb-true, le-ltb, lt-ltb, le-leb, lt-leb}
 use Rattle.rules.specs.Act.{Cmd, just, word}
@@ -494,15 +493,12 @@ query_text = record { asks = written_read; only = read-written; short = query_sh
 
 -- ---- enough room
 
-enough : (n m : ℕ) → n ≤ m → ltb m n ≡ false
-enough n m h = le-ltb m n h
-
 pub roomy : Roomy
 unfolding read_into respell_into find_into
 roomy = record {
-  reader = λ records entries s list rs xs e h a b. rw (h, enough (length rs) records a, enough (length xs) entries b);
-  rewriter = λ room s list t h a. rw (h, enough (length t) room a);
-  finder = λ records hits s list fl q rs is h a b. rw (h, enough (length rs) records a, enough (length is) hits b);
+  reader = λ records entries s list rs xs e h a b. rw (h, le-ltb records (length rs) a, le-ltb entries (length xs) b);
+  rewriter = λ room s list t h a. rw (h, le-ltb room (length t) a);
+  finder = λ records hits s list fl q rs is h a b. rw (h, le-ltb records (length rs) a, le-ltb hits (length is) b);
 }
 
 -- ---- limits
@@ -510,7 +506,7 @@ roomy = record {
 -- the limit of a spelling
 short_spelling : (s list : List ℕ) (w : Widths) → width_list list ≡ sound w → Accepted s list → length (house_text w s) ≤ 16_777_216 → respell s list ≡ spelled (house_text w s)
 unfolding respell
-short_spelling s list w e h k = rw e (spells (house_text w s) (read s list) h (enough (length (house_text w s)) stream_most k))
+short_spelling s list w e h k = rw e (spells (house_text w s) (read s list) h (le-ltb stream_most (length (house_text w s)) k))
 
 too_long : (t : List ℕ) (x : Answer) → is_accepted x ≡ true → is_over stream_most t ≡ true → spell_if t x ≡ not_spelled 13 0
 too_long t (refuse n at) h k = no h
@@ -527,8 +523,8 @@ limits_hold = record {
   long_list = λ s list h. rw (lt-ltb 65_536 (length list) h, or_true (is_over stream_most s) true refl);
   long_families = λ s list fl q h. rw (lt-ltb 65_536 (length fl) h, or_true (is_over 65_536 list) true refl, or_true (is_over stream_most s) true refl);
   long_query = λ s list fl q h. rw (lt-ltb 8_192 (length q) h, or_true (is_over 65_536 fl) true refl, or_true (is_over 65_536 list) true refl, or_true (is_over stream_most s) true refl);
-  not_long = λ s list h k. rw (enough (length s) stream_most h, enough (length list) 65_536 k);
-  not_long_query = λ s list fl q h k m l. rw (enough (length s) stream_most h, enough (length list) 65_536 k, enough (length fl) 65_536 m, enough (length q) 8_192 l);
+  not_long = λ s list h k. rw (le-ltb stream_most (length s) h, le-ltb 65_536 (length list) k);
+  not_long_query = λ s list fl q h k m l. rw (le-ltb stream_most (length s) h, le-ltb 65_536 (length list) k, le-ltb 65_536 (length fl) m, le-ltb 8_192 (length q) l);
   not_long_spelling = short_spelling;
   long_spelling = long_spelling;
   text = λ t h. rw (le-leb (length t) 4_096 h);

@@ -1,7 +1,7 @@
 -- The theorems of demands 2 and 3, as statements about the answer functions of the rules (`read`, `respell`, `find`, `judge`), for
 -- every list of bytes, width list, family list and query. The proofs stand in `proofs/`.
-use Rattle.std.specs.Prelude.{ℕ, suc, ◌+◌, ◌<◌, ◌≤◌, true, false, List, [], ◌∷◌, ◌++◌, map, ◌⊎◌, ◌≡◌, length, take, drop}
-use Rattle.rules.specs.declared.Judging.TheVariants as J
+use Rattle.std.specs.Prelude.{ℕ, suc, ◌+◌, ◌<◌, ◌≤◌, true, false, List, [], ◌∷◌, ◌++◌, map, ◌⊎◌, ◌≡◌, length, take, drop, Ok, Err}
+use Rattle.rules.specs.declared.Judging.{Judging}
 use Rattle.rules.specs.Act.{Act, glyph, raw, Cmd, just, word, pair}
 use Rattle.rules.specs.House.{played, spelling, spell_all}
 use Rattle.rules.specs.Scan.{limits, commands, bare}
@@ -10,7 +10,7 @@ use Rattle.rules.specs.State.{Spot, corner, Paint, no_paint, Env, Glyph, Item, s
 use Rattle.rules.specs.Record.{GlyphRow, ItemRow, Answer, refuse, answer}
 use Rattle.rules.specs.Families.{Family, grouped, family_list}
 use Rattle.rules.specs.Find.{Wanted, Key, well_formed, query, sought, hits_from}
-use Rattle.rules.specs.Answers.{stream_most, is_over, read_with, read, read_into, is_accepted, not_spelled, spelled, respell, respell_into, Found, not_found, found, key_of, find_with, find, find_into, judge}
+use Rattle.rules.specs.Answers.{stream_most, is_over, read_with, read, read_into, is_accepted, not_spelled, spelled, respell, respell_into, Found, not_found, found, key_of, find_with, find, find_into, refusal, judge}
 use Rattle.laws_read.specs.Outline.{signs_of, outline}
 use Rattle.laws_read.specs.Kept.{unmotioned, all_kept}
 use Rattle.laws_read.specs.Spots.{spots_of}
@@ -207,32 +207,32 @@ pub record Roomy : Type 0 where
 
 -- ---- what the judge's answer says of the other routines: whoever lends what it asks for is never refused for room (house)
 
--- r records, x entries, p pages and t bytes of spelling are the four numbers of an acceptance
+-- j is what is answered of an acceptance
 pub record Judged : Type 0 where
   -- it refuses as the reader does, room aside, and nothing else: the same number at the same place
-  pub refused : (s list : List ℕ) (n at : ℕ) → judge s list ≡ J.Refused n at → read s list ≡ refuse n at
-  pub refuses : (s list : List ℕ) (n at : ℕ) → read s list ≡ refuse n at → judge s list ≡ J.Refused n at
+  pub refused : (s list : List ℕ) (n at : ℕ) → judge s list ≡ Err (refusal n at) → read s list ≡ refuse n at
+  pub refuses : (s list : List ℕ) (n at : ℕ) → read s list ≡ refuse n at → judge s list ≡ Err (refusal n at)
   -- never with 12, 13 or 14
-  pub numbers : (s list : List ℕ) (n at : ℕ) → judge s list ≡ J.Refused n at → InTableTo 11 n
+  pub numbers : (s list : List ℕ) (n at : ℕ) → judge s list ≡ Err (refusal n at) → InTableTo 11 n
   -- what it accepts, the reader accepts, with just so many records, entries and pages
-  pub accepted : (s list : List ℕ) (r x p t : ℕ) → judge s list ≡ J.Accepted r x p t
-      → (rs : List GlyphRow) × (xs : List ItemRow) × (e : Env) × (read s list ≡ answer rs xs e) × (length rs ≡ r) × (length xs ≡ x) × (e.ordinal ≡ p)
-  -- with r places for records and x for entries, or more, the reader answers as it does where room is no matter
-  pub reader : (s list : List ℕ) (r x p t records entries : ℕ) → judge s list ≡ J.Accepted r x p t → r ≤ records → x ≤ entries → read_into records entries s list ≡ read s list
-  -- a spelling within its limit has t bytes, and the rewriter gives it to a buffer of t bytes or more
-  pub rewriter : (s list : List ℕ) (r x p t room : ℕ) → judge s list ≡ J.Accepted r x p t → t ≤ stream_most → t ≤ room
-      → (u : List ℕ) × (respell_into room s list ≡ spelled u) × (length u ≡ t)
-  -- a spelling over its limit is told by one byte more than the limit: no buffer is large enough. t is never more than that
-  pub rewriter_over : (s list : List ℕ) (r x p t room : ℕ) → judge s list ≡ J.Accepted r x p t → t ≡ suc stream_most → respell_into room s list ≡ not_spelled 13 0
-  pub spelling-most : (s list : List ℕ) (r x p t : ℕ) → judge s list ≡ J.Accepted r x p t → t ≤ suc stream_most
-  -- with r places for records and r for hits, or more, the finder answers any query as it does where room is no matter: never with 13,
-  -- and a well-formed query, with a sound family list that is not too long, with r records
-  pub finder : (s list fl q : List ℕ) (r x p t records hits : ℕ) → judge s list ≡ J.Accepted r x p t → r ≤ records → r ≤ hits → find_into records hits s list fl q ≡ find s list fl q
-  pub finder_never_13 : (s list fl q : List ℕ) (r x p t records hits n at : ℕ) → judge s list ≡ J.Accepted r x p t → r ≤ records → r ≤ hits
+  pub accepted : (s list : List ℕ) (j : Judging) → judge s list ≡ Ok j
+      → (rs : List GlyphRow) × (xs : List ItemRow) × (e : Env) × (read s list ≡ answer rs xs e) × (length rs ≡ j.records) × (length xs ≡ j.entries) × (e.ordinal ≡ j.pages)
+  -- with so many places for records and for entries, or more, the reader answers as it does where room is no matter
+  pub reader : (s list : List ℕ) (j : Judging) (records entries : ℕ) → judge s list ≡ Ok j → j.records ≤ records → j.entries ≤ entries → read_into records entries s list ≡ read s list
+  -- a spelling within its limit has so many bytes, and the rewriter gives it to a buffer of so many or more
+  pub rewriter : (s list : List ℕ) (j : Judging) (room : ℕ) → judge s list ≡ Ok j → j.spelling ≤ stream_most → j.spelling ≤ room
+      → (u : List ℕ) × (respell_into room s list ≡ spelled u) × (length u ≡ j.spelling)
+  -- a spelling over its limit is told by one byte more than the limit: no buffer is large enough. No more than that is told
+  pub rewriter_over : (s list : List ℕ) (j : Judging) (room : ℕ) → judge s list ≡ Ok j → j.spelling ≡ suc stream_most → respell_into room s list ≡ not_spelled 13 0
+  pub spelling-most : (s list : List ℕ) (j : Judging) → judge s list ≡ Ok j → j.spelling ≤ suc stream_most
+  -- with so many places for records and as many for hits, or more, the finder answers any query as it does where room is no matter: never
+  -- with 13, and a well-formed query, with a sound family list that is not too long, with so many records
+  pub finder : (s list fl q : List ℕ) (j : Judging) (records hits : ℕ) → judge s list ≡ Ok j → j.records ≤ records → j.records ≤ hits → find_into records hits s list fl q ≡ find s list fl q
+  pub finder_never_13 : (s list fl q : List ℕ) (j : Judging) (records hits n at : ℕ) → judge s list ≡ Ok j → j.records ≤ records → j.records ≤ hits
       → find_into records hits s list fl q ≡ not_found n at → n ≡ 13 → ⊥
-  pub finder_found : (s list fl q : List ℕ) (fs : List Family) (qs : List Wanted) (r x p t records hits : ℕ) → judge s list ≡ J.Accepted r x p t → r ≤ records → r ≤ hits
+  pub finder_found : (s list fl q : List ℕ) (fs : List Family) (qs : List Wanted) (j : Judging) (records hits : ℕ) → judge s list ≡ Ok j → j.records ≤ records → j.records ≤ hits
       → family_list fl ≡ grouped fs → length fl ≤ 65_536 → query q ≡ well_formed qs
-      → (rs : List GlyphRow) × (is : List ℕ) × (find_into records hits s list fl q ≡ found rs is) × (length rs ≡ r)
+      → (rs : List GlyphRow) × (is : List ℕ) × (find_into records hits s list fl q ≡ found rs is) × (length rs ≡ j.records)
 
 -- ---- the limits that no sample reaches, as 01 and 2026-01 have them: 16,777,216 bytes of a stream and of a spelling, 65,536 of a width list
 -- and of a family list, 8,192 of a query, 4,096 of a text; each number itself is allowed

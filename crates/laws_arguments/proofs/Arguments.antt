@@ -7,17 +7,17 @@ use mathlib.Core.Logic.{◌⊎◌, inl, inr}
 use mathlib.Core.Option.{Option, none, some}
 use mathlib.Core.Path.{◌≡◌, refl, sym, ap, subst, ◌∙◌}
 use lib.ListN.{length}
+use Rattle.std.proofs.Math.Option.{none-ne-some}
 use Rattle.rules.specs.Bytes.{Num}
 use Rattle.rules.specs.Act.{Cmd}
 use Rattle.rules.specs.Letters.{Draft, fault, draft}
 use Rattle.rules.specs.Scan.{letter, cmd_limits, is_small, outside, judged_by, judged, command, Scan, got, bad}
-use Rattle.laws.proofs.Cases.{no}
 use Rattle.laws.proofs.Clear.{cleared_both}
 use Rattle.laws_scan.specs.Texts.{Spacer}
 use Rattle.laws_scan.proofs.Bounds.{bad_place}
 use Rattle.laws_scan.proofs.Faults.{FaultIn, letter-fault}
 use Rattle.laws_arguments.specs.Arguments.{Argument, ArgumentWithin, AllWithin, arguments_of, ArgumentIs, Laid, OutsideAt, PointsAtArgument}
-use Rattle.laws_arguments.proofs.Limits.{Agree, agree, is_some, none_found, all_in}
+use Rattle.laws_arguments.proofs.Limits.{Agree, agree, none_found, all_in}
 use Rattle.laws_arguments.proofs.Places.{Begins, LaidAt, nothing_laid, one_more_laid}
 use Rattle.laws_arguments.proofs.Counts.{command_count}
 use Rattle.laws_arguments.proofs.Letters.{LaidOut, Unlaid, unlaid_within, DraftLaid, letter_laid}
@@ -52,7 +52,7 @@ record First (s : ℕ) (r : List ℕ) (xs : List Argument) (k : ℕ) : Type 0 wh
   place : k ≡ at + length gap
 
 first : (ps : List Bool) (xs : List Argument) (ks : List ℕ) (s : ℕ) (r : List ℕ) (l : ℕ) (t : List ℕ) (k : ℕ) → Agree ps xs → LaidAt s r xs ks l t → outside ps ks ≡ some k → First s r xs k
-first [] xs ks s r l t k h g e = no (ap is_some e)
+first [] xs ks s r l t k h g e = absurd (none-ne-some _ e)
 first (true ∷ ps) [] ks s r l t k h g e = absurd h
 first (true ∷ ps) (x ∷ xs) [] s r l t k h g e = absurd g
 first (true ∷ ps) (x ∷ xs) (j ∷ ks) s r l t k h g e =
@@ -151,7 +151,7 @@ points_at b r k (draft c ds ks a l t) e i h j = go (outside ps ks) refl j
         }
 
     at_fault : outside ps ks ≡ some k → Unlaid b (arguments_of c ds) ⊎ LaidOut b r (arguments_of c ds) ks → OutsideAt b r k
-    at_fault f (inl all) = no (ap is_some (sym (none_found ps (arguments_of c ds) ks (agree c ds) (unlaid_within b (arguments_of c ds) all)) ∙ f))
+    at_fault f (inl all) = absurd (none-ne-some k (sym (none_found ps (arguments_of c ds) ks (agree c ds) (unlaid_within b (arguments_of c ds) all)) ∙ f))
     at_fault f (inr y) =
         let z : Skipped ps y.written (y.stand_ins ++ y.places) y.places = skipped ps y.unwritten y.written y.stand_ins y.places y.even y.in_limit (subst (Agree ps) y.order (agree c ds)) in
         let found : outside z.tests y.places ≡ some k = sym z.same ∙ ap (outside ps) (sym y.in_order) ∙ f in

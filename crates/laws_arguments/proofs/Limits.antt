@@ -3,15 +3,15 @@ use Prim.Native.Nat.{ℕ, zero, suc, ◌+◌, ◌-◌, ◌≤◌}
 use native.Mathlib.Omega.{arith}
 use mathlib.Core.Bool.{Bool, true, false, ◌&&◌}
 use mathlib.Core.List.{List, [], ◌∷◌, ◌++◌, map}
-use mathlib.Core.Option.{Option, none, some}
-use mathlib.Core.Path.{◌≡◌, refl, sym, ap}
+use mathlib.Core.Option.{none}
+use mathlib.Core.Path.{◌≡◌, refl}
 use lib.Dec.{leb}
 use lib.ListN.{length, take, drop}
 use borrow.Author.Tests.{leb-true, leb-false, lt-ltb}
+use Rattle.std.proofs.Math.Option.{some-ne-none}
 use Rattle.rules.specs.Bytes.{Num, most, origin, within, near}
 use Rattle.rules.specs.Act.{Shape, line, arc, circle, solid_circle, ellipse, solid_ellipse, polygon, solid_polygon, spline, thickness, gray_fill, colour_fill, Plain, pause, trailer, height, slant, underline, Act, glyph, index, to, by, page, font, size, colour, break, space, draw, device, resolution, init, file, mount, plain, raw, stop, Cmd, just, word, pair}
 use Rattle.rules.specs.Scan.{is_positive, up_to, shape_limits, plain_limits, limits, cmd_limits, is_small, outside}
-use Rattle.laws.proofs.Cases.{no}
 use Rattle.laws_arguments.specs.Arguments.{Argument, a_number, a_dummy, one_too_many, a_name, a_text, ArgumentWithin, AllWithin, any_number, positive, shape_arguments, plain_arguments, act_arguments, cmd_arguments, arguments_of}
 
 -- ---- one argument, and a list of them
@@ -135,10 +135,6 @@ agree c ds = agree_append (cmd_limits c) (map is_small ds) (cmd_arguments c) (ma
 
 -- ---- the first that is outside its limit
 
-abbrev pub is_some : Option ℕ → Bool
-is_some none = false
-is_some (some k) = true
-
 pub none_found : (ps : List Bool) (xs : List Argument) (ks : List ℕ) → Agree ps xs → AllWithin xs → outside ps ks ≡ none
 none_found [] xs ks h g = refl
 none_found (true ∷ ps) [] ks h g = absurd h
@@ -154,5 +150,5 @@ all_in (true ∷ ps) [] ks h e = absurd h
 all_in (true ∷ ps) (x ∷ xs) [] h e = (h.0, all_in ps xs [] h.1 e)
 all_in (true ∷ ps) (x ∷ xs) (k ∷ ks) h e = (h.0, all_in ps xs ks h.1 e)
 all_in (false ∷ ps) [] ks h e = absurd h
-all_in (false ∷ ps) (x ∷ xs) [] h e = no (sym (ap is_some e))
-all_in (false ∷ ps) (x ∷ xs) (k ∷ ks) h e = no (sym (ap is_some e))
+all_in (false ∷ ps) (x ∷ xs) [] h e = absurd (some-ne-none _ e)
+all_in (false ∷ ps) (x ∷ xs) (k ∷ ks) h e = absurd (some-ne-none _ e)

@@ -9,9 +9,10 @@ use mathlib.Core.Path.{◌≡◌, refl, sym, ap, ap₂, subst, ◌∙◌}
 use lib.Dec.{eqb}
 use lib.ListN.{length, drop, length-append}
 use borrow.Author.Tests.{ne_eqb}
+use lib.Seq.{drop-append_seam}
 use Rattle.rules.specs.Bytes.{is, is_space, is_not_white, spacer, unspaced, string, Num, Int, no_int, int, integer}
 use Rattle.rules.specs.Letters.{Draft, fault, draft}
-use Rattle.laws.proofs.Cases.{if_both, Stops, span_all, drop_front}
+use Rattle.laws.proofs.Cases.{if_both, Stops, span_all}
 use Rattle.laws_scan.specs.Texts.{Spacer, NoWhite, WhiteOrEnd, Digits, Written}
 use Rattle.laws_scan.proofs.Written.{integers_as_written}
 use Rattle.laws_scan.proofs.LineBreaks.{are_spaces, are_not-white, white_stops}
@@ -93,7 +94,7 @@ place_behind k r (x ∷ xs) =
     place_behind (k + spacer r + l) (drop l (unspaced r)) xs
 
 front_is : (P : ℕ → List ℕ → Type 0) (n : ℕ) (s t : List ℕ) → n ≡ length s → P (length s) t → P n (drop n (s ++ t))
-front_is P n s t e h = rw (e, drop_front s t) h
+front_is P n s t e h = rw (e, drop-append_seam s t) h
 
 place_behind_lem : (k : ℕ) (r : List ℕ) (xs : List Argument) (l : ℕ) (u : List ℕ) → Laid k r xs l u → NoText xs → (gap text behind : List ℕ) (x : Argument) → u ≡ gap ++ (text ++ behind) → Spacer gap
     → ArgumentIs x text behind → l + length gap ≡ place_behind k r xs

@@ -1,12 +1,14 @@
 -- Families: in a sound list no name stands twice, so that the names that match a name are those of its family.
 use Prim.Native.Nat.{ℕ}
-use mathlib.Core.Bool.{Bool, true, false, ◌&&◌, ◌||◌}
+use mathlib.Core.Bool.{true, false, ◌&&◌}
 use mathlib.Core.List.{List, [], ◌∷◌, ◌++◌}
 use mathlib.Core.Logic.{◌⊎◌, inl, inr}
 use mathlib.Core.Option.{Option, none, some}
-use mathlib.Core.Path.{◌≡◌, refl, sym, ap, ◌∙◌}
+use mathlib.Core.Path.{◌≡◌, refl, sym, ◌∙◌}
 use lib.Dec.{ltb}
 use lib.ListN.{length}
+use Rattle.std.proofs.Math.Option.{some-ne-none}
+use Rattle.std.proofs.lemmas.Bool.{or_cases, or_left, or_right}
 use Rattle.rules.specs.Bytes.{bytes, same}
 use Rattle.rules.specs.Widths.{Line, lines_from, behind, is_list_name}
 use Rattle.rules.specs.Families.{Family, names_in, is_in, family_of, names_of, is_none, is_new_name, is_whole, families_most, others_most, name_line, same_line, family_line, family_read, FamilyList, ill_grouped, grouped, families_on, family_lines, family_list}
@@ -19,21 +21,10 @@ use Rattle.laws_find.proofs.Written.{listed_good}
 
 -- ---- the test of a name among names
 
-pub or_split : (a b : Bool) → (a || b) ≡ true → (a ≡ true) ⊎ (b ≡ true)
-or_split true b h = inl refl
-or_split false b h = inr h
-
-pub or_left : (a b : Bool) → a ≡ true → (a || b) ≡ true
-or_left a b h = rw h
-
-pub or_right : (a b : Bool) → b ≡ true → (a || b) ≡ true
-or_right true b h = refl
-or_right false b h = h
-
 pub in_among : (n : List ℕ) (ms : List (List ℕ)) → is_in n ms ≡ true → Among n ms
 unfolding is_in
 in_among n [] h = no h
-in_among n (m ∷ ms) h = go (or_split (same n m) (is_in n ms) h) (λ e. in_among n ms e)
+in_among n (m ∷ ms) h = go (or_cases (same n m) (is_in n ms) h) (λ e. in_among n ms e)
   where
     go : (same n m ≡ true) ⊎ (is_in n ms ≡ true) → (is_in n ms ≡ true → Among n ms) → (n ≡ m) ⊎ Among n ms
     go (inl e) more = inl (same_eq n m e)
@@ -100,13 +91,9 @@ pub new_good : (n : List ℕ) (fs : List Family) → is_new_name n fs ≡ true �
 new_good n fs h = listed_good n (and_left (is_list_name n) (is_none (family_of n fs)) h)
 
 -- a name that is in none of these is in none of the older ones
-abbrev is_some : Option Family → Bool
-is_some none = false
-is_some (some f) = true
-
 older_none : (n : List ℕ) (f : Family) (fs : List Family) → family_of n (f ∷ fs) ≡ none → family_of n fs ≡ none
 unfolding family_of
-older_none n f fs h = on (is_in n (names_in f)) (λ e. no (sym (ap is_some (rw e at h)))) (λ e. rw e at h)
+older_none n f fs h = on (is_in n (names_in f)) (λ e. absurd (some-ne-none f (rw e at h))) (λ e. rw e at h)
 
 begun_parted : (at : ℕ) (n : List ℕ) (fs : List Family) → is_new_name n fs ≡ true → Parted fs → Parted (record { place = at; first = n; others = [] } ∷ fs)
 begun_parted at n fs h p = (apart, good, p)
@@ -202,7 +189,7 @@ one_family (f ∷ fs) n m p (inr h) =
 
 module _ (fs : List Family) (n : List ℕ) (q : Wanted) where
   pub name_match : same_name n (sought fs q) ≡ true → Match fs n q.name
-  name_match h = go (or_split (same n q.name) (is_in n (names_of (family_of q.name fs))) h)
+  name_match h = go (or_cases (same n q.name) (is_in n (names_of (family_of q.name fs))) h)
     where
       go : (same n q.name ≡ true) ⊎ (is_in n (names_of (family_of q.name fs)) ≡ true) → Match fs n q.name
       go (inl e) = inl (same_eq n q.name e)

@@ -2,7 +2,7 @@
 use Prim.Native.Nat.{ℕ, zero, suc, ◌+◌, ◌*◌, ◌<◌, ◌≤◌}
 use native.Mathlib.Omega.{arith}
 use native.Mathlib.Nat.{add-zero, le_of_suc-le-suc}
-use mathlib.Core.Bool.{Bool, true, false, ◌&&◌, ◌||◌}
+use mathlib.Core.Bool.{Bool, true, false, ◌&&◌}
 use mathlib.Core.List.{List, [], ◌∷◌, ◌++◌, append_assoc}
 use mathlib.Core.Logic.{inl, inr}
 use mathlib.Core.Option.{Option, none, some}
@@ -10,6 +10,8 @@ use mathlib.Core.Path.{◌≡◌, refl, sym, ap, ◌∙◌}
 use lib.Dec.{ltb, leb, eqb}
 use lib.ListN.{length, length-append}
 use borrow.Author.Tests.{eqb-true, eq-eqb, ltb-true, lt-ltb, leb-true, le-leb}
+use Rattle.std.proofs.Math.Option.{none-ne-some}
+use Rattle.std.proofs.lemmas.Bool.{or_parts}
 use Rattle.rules.specs.Bytes.{bytes, is, is_space, is_white, is_not_white, is_clear, span, same}
 use Rattle.rules.specs.Widths.{Line, with_byte, lines_from, behind, is_list_name}
 use Rattle.rules.specs.Find.{Gap, any_gap, no_gap, some_gap, Wanted, Expected, first_glyph, gap_glyph, either, Query, ill_formed, well_formed, query_ends, with_wanted, gap_of, may_ask, query_line, query_lines, query}
@@ -75,13 +77,9 @@ abbrev pub OneLine : List ℕ → Type 0
 OneLine [] = Unit {0}
 OneLine (b ∷ t) = (is "\n" b ≡ false) × OneLine t
 
-or_right : (a b : Bool) → (a || b) ≡ false → b ≡ false
-or_right true b h = no (sym h)
-or_right false b h = h
-
 pub no_white_line : (n : List ℕ) → NoWhite n → OneLine n
 no_white_line [] h = tt
-no_white_line (b ∷ n) h = (or_right (is_space b) (is "\n" b) (not-white_false b h.0), no_white_line n h.1)
+no_white_line (b ∷ n) h = ((or_parts (is_space b) (is "\n" b) (not-white_false b h.0)).1, no_white_line n h.1)
 
 pub line_front : (t : List ℕ) (at : ℕ) (r : List ℕ) → OneLine t → lines_from at (t ++ 10 ∷ r) ≡ record { place = at; text = t; ended = true } ∷ lines_from (at + length t + 1) r
 unfolding lines_from
@@ -159,18 +157,14 @@ abbrev behind_or : List ℕ → Option (List ℕ) → List ℕ
 behind_or t none = t
 behind_or t (some n) = n
 
-abbrev is_some : Option (List ℕ) → Bool
-is_some none = false
-is_some (some n) = true
-
 pub behind_front : (key t n : List ℕ) → behind key t ≡ some n → t ≡ key ++ n
 unfolding behind
 behind_front [] t n h = ap (behind_or []) h
-behind_front (x ∷ xs) [] n h = no (ap is_some h)
+behind_front (x ∷ xs) [] n h = absurd (none-ne-some n h)
 behind_front (x ∷ xs) (b ∷ t) n h =
     on (eqb x b)
     (λ e. rw (eqb-true x b e) (ap (λ (l : List ℕ). b ∷ l) (behind_front xs t n (rw e at h))))
-    (λ e. no (ap is_some (rw e at h)))
+    (λ e. absurd (none-ne-some n (rw e at h)))
 
 -- what the lines still to come say: with the gap line that came before them they are what is written for the glyphs
 pub record Says (n : ℕ) (x : Expected) (t : List ℕ) (qs : List Wanted) : Type 0 where

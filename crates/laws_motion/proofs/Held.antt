@@ -8,7 +8,7 @@ use mathlib.Core.List.{List, [], ◌∷◌}
 use mathlib.Core.Logic.{◌⊎◌, inl, inr, ⊎_elim}
 use mathlib.Core.Option.{some}
 use mathlib.Core.Path.{◌≡◌, refl, sym, ap, ap₂, ◌∙◌}
-use lib.Dec.{leb, ltb}
+use lib.Dec.{ltb}
 use lib.IntN.{ℤ, pos, negsuc, nat_abs, pos-ne-negsuc}
 use lib.ListN.{get_or, drop, replicate}
 use lib.Seq.{get_or-set_same, get_or-set_other}
@@ -382,4 +382,8 @@ colour_holds c = record { scheme = go c.scheme; components = refl }
     go rgb = refl
 
 pub ends_hold : AnswerHolds
-ends_hold rs xs e = record { numbers = refl; glyph_colour = colour_holds e.glyph_paint; fill_colour = colour_holds e.fill_paint }
+ends_hold rs xs e = (
+  _,
+  refl,
+  record { records = refl; entries = refl; pages = refl; h = refl; v = refl; glyph_colour = colour_holds e.glyph_paint; fill_colour = colour_holds e.fill_paint },
+)

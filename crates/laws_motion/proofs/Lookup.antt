@@ -1,12 +1,13 @@
 -- The rules' look-up of a width is the relation `Says`, both ways.
 use Prim.Native.Nat.{ℕ}
-use mathlib.Core.Bool.{Bool, true, false}
+use mathlib.Core.Bool.{true, false}
 use mathlib.Core.List.{List, [], ◌∷◌}
 use mathlib.Core.Logic.{inl, inr}
-use mathlib.Core.Option.{Option, none, some}
-use mathlib.Core.Path.{◌≡◌, refl, sym, ap, ap₂, ◌∙◌}
+use mathlib.Core.Option.{some}
+use mathlib.Core.Path.{◌≡◌, refl, sym, ap₂, ◌∙◌}
 use lib.Dec.{eqb}
 use borrow.Author.Tests.{eqb-true, eqb-false, eq-eqb, ne_eqb}
+use Rattle.std.proofs.Math.Option.{some-injective, none-ne-some}
 use Rattle.rules.specs.Bytes.{same}
 use Rattle.rules.specs.Widths.{Width, Font, width_in, width_of}
 use Rattle.laws.proofs.Cases.{on, no, and_left, and_right}
@@ -37,27 +38,13 @@ differ xs ys h = on (same xs ys) (λ k. absurd (h (same_eq xs ys k))) (λ k. k)
 
 -- ---- one value or none
 
-abbrev is_some : Option ℕ → Bool
-is_some none = false
-is_some (some x) = true
-
-abbrev held : Option ℕ → ℕ
-held none = 0
-held (some x) = x
-
-pub some_one : (x y : ℕ) → some x ≡ some y → x ≡ y
-some_one x y h = ap held h
-
-pub none_not : (x : ℕ) → none ≡ some x → ⊥
-none_not x h = no (ap is_some h)
-
 -- ---- a pair
 
 pair_says : (b x : ℕ) (ps : List Width) → width_in b ps ≡ some x → Paired b x ps
 unfolding width_in
-pair_says b x [] h = none_not x h
+pair_says b x [] h = absurd (none-ne-some x h)
 pair_says b x (p ∷ ps) h =
-    on (eqb p.byte b) (λ k. inl (eqb-true p.byte b k, some_one p.width x (rw k at h)))
+    on (eqb p.byte b) (λ k. inl (eqb-true p.byte b k, some-injective p.width x (rw k at h)))
     (λ k. inr (eqb-false p.byte b k, pair_says b x ps (rw k at h)))
 
 said_pair : (b x : ℕ) (ps : List Width) → Paired b x ps → width_in b ps ≡ some x
@@ -70,7 +57,7 @@ said_pair b x (p ∷ ps) (inr h) = rw (ne_eqb p.byte b h.0) (said_pair b x ps h.
 
 pub width_says : (n : List ℕ) (b x : ℕ) (fs : List Font) → width_of n b fs ≡ some x → Says fs n b x
 unfolding width_of
-width_says n b x [] h = none_not x h
+width_says n b x [] h = absurd (none-ne-some x h)
 width_says n b x (f ∷ fs) h =
     on (same f.name n) (λ k. inl (same_eq f.name n k, pair_says b x f.widths (rw k at h)))
     (λ k. inr (not_same f.name n k, width_says n b x fs (rw k at h)))

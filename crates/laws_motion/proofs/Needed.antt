@@ -10,6 +10,7 @@ use mathlib.Core.Path.{◌≡◌, refl, sym, ap, ap₂, ◌∙◌}
 use lib.Dec.{ltb, eqb}
 use lib.IntN.{ℤ, pos, ◌+ℤ◌}
 use borrow.Author.Tests.{ltb-true, ltb-false, eqb-true, eqb-false}
+use Rattle.std.proofs.Math.Option.{some-injective, none-ne-some}
 use Rattle.rules.specs.Bytes.{origin}
 use Rattle.rules.specs.Act.{across, Act, glyph, index, to, by, page, font, size, colour, break, space, draw, device, resolution, init, file, mount, plain, raw, stop, Cmd, just, word, pair}
 use Rattle.rules.specs.Drawing.{way_of}
@@ -19,7 +20,7 @@ use Rattle.rules.specs.Record.{shown}
 use Rattle.laws.proofs.Cases.{on, no, if_on, and_left, and_right}
 use Rattle.laws_motion.proofs.Steps.{is_refused, After, if_after, font_after, act_after}
 use Rattle.laws_motion.proofs.Held.{shown_pos}
-use Rattle.laws_motion.proofs.Lookup.{some_one, none_not, width_says, said_width}
+use Rattle.laws_motion.proofs.Lookup.{width_says, said_width}
 use Rattle.laws_motion.proofs.Moved.{by_in, by_not, clash, index_stays, refusal_10}
 use Rattle.laws_motion.proofs.Worded.{Ready, grown, run_fits, run-not, moved_by, words_hold}
 use Rattle.laws_motion.specs.Motions.{Says, Grows, AsWritten, Inside, WordRefused}
@@ -107,7 +108,7 @@ Shape L (refused n) = ((n ≡ 8) × L) ⊎ ((n ≡ 10) × (L → ⊥))
 Shape L (went d gs xs) = L → ⊥
 
 nothing-missing : (e : Env) (f : ℕ) → e.font ≡ some f → ltb 0 e.size ≡ true → NoFontAndSize e → ⊥
-nothing-missing e f k s (inl n) = none_not f (sym n ∙ k)
+nothing-missing e f k s (inl n) = none-ne-some f (sym n ∙ k)
 nothing-missing e f k s (inr z) = omega (arith, ltb-true 0 e.size s)
 
 no_size : (e : Env) → ltb 0 e.size ≡ false → e.size ≡ 0
@@ -231,7 +232,7 @@ module _ (fs : List Font) (name : List ℕ) (far : ℕ → ℕ) where
   word_widthy (b ∷ bs) = go (width_of name b fs) refl (word_acts fs name far bs) (word_widthy bs)
     where
       go : (o : Option ℕ) → width_of name b fs ≡ o → (t : Acts) → Widthy bs t → Widthy (b ∷ bs) (byte_acts b far o t)
-      go none w t f = (refl, inl (λ x s. none_not x (sym w ∙ said_width name b x fs s)))
+      go none w t f = (refl, inl (λ x s. none-ne-some x (sym w ∙ said_width name b x fs s)))
       go (some x) w (no_acts n) f = (f.0, inr f.1)
       go (some x) w (these ys) f = (⊎_elim (λ u. u x (width_says name b x fs w)) f.0, λ d r. byte_ends d b (far x) ys r (f.1 (grown d (far x)) r))
 
@@ -244,7 +245,7 @@ grows_one w e f n (b ∷ bs) [] ys g h = absurd g
 grows_one w e f n (b ∷ bs) (z ∷ zs) [] g h = absurd h
 grows_one w e f n (b ∷ bs) (z ∷ zs) (y ∷ ys) g h =
     let name : List ℕ = mounted_at f e.mounts in
-    let same_width : g.0.0 ≡ h.0.0 = some_one g.0.0 h.0.0 (sym (said_width name b g.0.0 w.fonts g.0.1) ∙ said_width name b h.0.0 w.fonts h.0.1) in
+    let same_width : g.0.0 ≡ h.0.0 = some-injective g.0.0 h.0.0 (sym (said_width name b g.0.0 w.fonts g.0.1) ∙ said_width name b h.0.0 w.fonts h.0.1) in
     ap₂ (λ (x : ℤ) (l : List ℤ). x ∷ l) (g.0.2 ∙ ap (λ (x : ℕ). pos (advance x e.size w.unitwidth e.quantum) +ℤ n) same_width ∙ sym h.0.2) (grows_one w e f n bs zs ys g.1 h.1)
 
 module _ (w : Widths) (e : Env) (n : ℕ) (bs : List ℕ) where
@@ -262,7 +263,7 @@ module _ (w : Widths) (e : Env) (n : ℕ) (bs : List ℕ) where
     word_far : (ys : List Act) → acts w e (word n bs) ≡ these ys → TooFar w e (word n bs) → run e ys ≡ refused 10
     word_far ys q t =
         let r : WordRefused w e n bs = words_hold.refusal_10 w e n bs ys q in
-        let same_font : t.0 ≡ r.position = some_one t.0 r.position (sym t.1 ∙ r.current) in
+        let same_font : t.0 ≡ r.position = some-injective t.0 r.position (sym t.1 ∙ r.current) in
         let g : Grows w e r.position (shown n) bs t.2.0 = rw same_font at t.2.1 in
         let same_growth : t.2.0 ≡ r.growth = grows_one w e r.position (shown n) bs t.2.0 r.growth g r.grows in
         sym (ap (perform e) q) ∙ r.given (rw same_growth at t.2.2)
@@ -273,7 +274,7 @@ module _ (w : Widths) (e : Env) (n : ℕ) (bs : List ℕ) where
         (r.position, r.current, (r.growth, r.grows, r.only (ap (perform e) q ∙ h)))
 
     some_width : (SomeByte (NoWidthOf w e f) bs → ⊥) → NoWidth w e (word n bs) → ⊥
-    some_width h x = h (rw (some_one x.0 f (sym x.1 ∙ k)) at x.2)
+    some_width h x = h (rw (some-injective x.0 f (sym x.1 ∙ k)) at x.2)
 
     word_run : (ys : List Act) → acts w e (word n bs) ≡ these ys → (NoWidth w e (word n bs) → ⊥) → (x : Step) → run e ys ≡ x → Ends e.phase x → Verdict w e (word n bs) x
     word_run ys q h (refused m) r z = rw z (ten w e (word n bs) word_due word_has h (word_not_far ys q (r ∙ ap refused z)))

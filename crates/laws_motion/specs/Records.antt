@@ -1,7 +1,7 @@
 -- Document 01, "What a record holds": the numbers of a record, an entry and the reader's answer, each said by what the environment holds
 -- before the command, as an integer. The statements name what comes out of `act`, `record_of`, `entry_of` and `reading_of`, and nothing by
 -- which these are put together, so a wrong `glyph_of`, `item_at`, `letters_of` or `new_page` does not meet them. Proofs: `proofs/Held.antt`.
-use Rattle.std.specs.Prelude.{ℕ, suc, ◌*◌, ◌-◌, ◌/◌, ◌<◌, ◌≤◌, Bool, true, false, List, [], ◌∷◌, map, ◌⊎◌, ◌≡◌, ℤ, pos, negsuc, length, get_or}
+use Rattle.std.specs.Prelude.{ℕ, suc, ◌*◌, ◌-◌, ◌/◌, ◌<◌, ◌≤◌, Bool, true, false, List, [], ◌∷◌, map, ◌⊎◌, ◌≡◌, ℤ, pos, negsuc, length, get_or, Ok}
 use Prim.Native.Char.{Char, code}
 use Prim.Native.String.{String}
 use Rattle.std.proofs.Math.Option.{none, some}
@@ -9,7 +9,6 @@ use Rattle.rules.specs.declared.Record.{Record}
 use Rattle.rules.specs.declared.Entry.{Entry}
 use Rattle.rules.specs.declared.Colour.{Colour}
 use Rattle.rules.specs.declared.Reading.{Reading}
-use Rattle.rules.specs.declared.ReadAnswer.TheVariants as R
 use Rattle.rules.specs.Bytes.{bytes}
 use Rattle.rules.specs.Act.{Scheme, cmy, default, gray, cmyk, rgb, Shape, line, arc, circle, solid_circle, ellipse, solid_ellipse, polygon, solid_polygon, spline, thickness, gray_fill, colour_fill, Plain, pause, trailer, height, slant, underline, Act, glyph, index, to, by, page, font, size, colour, break, space, draw, device, resolution, init, file, mount, plain, raw, stop}
 use Rattle.rules.specs.State.{Paint, Env, start, Glyph, Item, mounted_at, went, act}
@@ -296,9 +295,13 @@ pub record ColourHolds (c : Paint) (x : Colour) : Type 0 where
   pub components : x.parts ≡ c.parts
 
 pub record EndHolds (rs : List GlyphRow) (xs : List ItemRow) (e : Env) (r : Reading) : Type 0 where
-  pub numbers : r.answer ≡ R.Accepted (length rs) (length xs) e.ordinal (shown e.spot.h) (shown e.spot.v)
+  pub records : r.records ≡ length rs
+  pub entries : r.entries ≡ length xs
+  pub pages : r.pages ≡ e.ordinal
+  pub h : r.h ≡ shown e.spot.h
+  pub v : r.v ≡ shown e.spot.v
   pub glyph_colour : ColourHolds e.glyph_paint r.glyph
   pub fill_colour : ColourHolds e.fill_paint r.fill
 
 abbrev pub AnswerHolds : Type 0
-AnswerHolds = (rs : List GlyphRow) (xs : List ItemRow) (e : Env) → EndHolds rs xs e (reading_of (answer rs xs e))
+AnswerHolds = (rs : List GlyphRow) (xs : List ItemRow) (e : Env) → (r : Reading) × (reading_of (answer rs xs e) ≡ Ok r) × EndHolds rs xs e r

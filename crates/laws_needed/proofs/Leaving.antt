@@ -6,12 +6,12 @@ use mathlib.Core.List.{List, [], ◌∷◌, ◌++◌, map, map-append}
 use mathlib.Core.Option.{Option, none, some}
 use mathlib.Core.Path.{◌≡◌, refl, sym, ap, subst, ◌∙◌}
 use lib.Dec.{ltb}
-use lib.ListN.{length, drop}
+use Rattle.std.proofs.lemmas.List.{append_cancel_left}
 use Rattle.rules.specs.Bytes.{origin}
 use Rattle.rules.specs.Drawing.{way_of}
 use Rattle.rules.specs.Act.{Shape, Axis, across, down, Act, glyph, index, to, by, page, font, size, colour, break, space, draw, device, resolution, init, file, mount, plain, raw, stop}
 use Rattle.rules.specs.State.{Spot, corner, get, put, item, item_at, with_font, recorded, indexed, may_go, spot_after, filled, Env, set_spot, set_fill_paint, set_phase, Glyph, Item, Step, refused, went, before, and_then, on_page, in_body, due, effect, act, run, stopped}
-use Rattle.laws.proofs.Cases.{on, no, and_left, if_on, drop_front}
+use Rattle.laws.proofs.Cases.{on, no, and_left, if_on}
 use Rattle.laws_read.proofs.Placed.{did_go}
 use Rattle.laws_moves.specs.Sparing.{placed, mute, kind_of}
 use Rattle.laws_moves.proofs.Spare.{Same, stays, top, not_stopped, facts}
@@ -50,9 +50,6 @@ nil_right : {A : Type 0} (xs ys : List A) → [] ≡ xs ++ ys → [] ≡ ys
 nil_right [] ys h = h
 nil_right (x ∷ xs) ys h = no (ap is_nil (sym h))
 
-same_rest : {A : Type 0} (xs ys zs : List A) → xs ++ ys ≡ xs ++ zs → ys ≡ zs
-same_rest xs ys zs h = sym (drop_front xs ys) ∙ ap (drop (length xs)) h ∙ drop_front xs zs
-
 pub record Rest (b b' : Step) : Type 0 where
   pub read : Step
   pub reads : Reads read b'
@@ -70,8 +67,8 @@ peel gs is (went v ks ls) (went d hs js) (went d' hs' js') g r k = record {
   read = went d' hs' js';
   reads = λ h. refl;
   alike = record {
-    records = same_rest gs hs' hs (sym (ap records_of (r refl)) ∙ k.records);
-    entries = same_rest is js' js (sym (ap entries_of (r refl)) ∙ k.entries);
+    records = append_cancel_left gs hs' hs (sym (ap records_of (r refl)) ∙ k.records);
+    entries = append_cancel_left is js' js (sym (ap entries_of (r refl)) ∙ k.entries);
     end = sym (ap end_of (r refl)) ∙ k.end;
   };
 }

@@ -1,4 +1,5 @@
 -- Where a row of the table is there, with what is said of its place, that refusal is given.
+use Rattle.std.specs.Prelude.{Err}
 use Prim.Native.Nat.{ℕ, zero, suc, ◌+◌, ◌-◌, ◌<◌, ◌≤◌}
 use native.Mathlib.Omega.{arith}
 use native.Mathlib.Nat.{add-zero}
@@ -10,7 +11,6 @@ use borrow.Author.Tests.{eqb-true, eqb-false, ltb-true, ltb-false, lt-ltb, le-lt
 use lib.Dec.{ltb}
 use lib.ListN.{length, take, drop, get_or, length-drop, take-append-drop, get_or-eq_default}
 use lib.Seq.{get_or-drop, take-take}
-use Rattle.rules.specs.declared.Judging.TheVariants as J
 use Rattle.rules.specs.Bytes.{is, is_white, span, one_line}
 use Rattle.rules.specs.Act.{Cmd}
 use Rattle.rules.specs.Scan.{letter, got, bad, Scan, command, commands}
@@ -19,7 +19,7 @@ use Rattle.rules.specs.State.{Env, start, Glyph, Item}
 use Rattle.rules.specs.Record.{Answer, refuse, after_rows, glyph_rows, item_rows, follow}
 use Rattle.rules.specs.Families.{Family, FamilyList, ill_grouped, grouped, family_list}
 use Rattle.rules.specs.Find.{Wanted, sought, query_lines, Query, ill_formed, well_formed, query}
-use Rattle.rules.specs.Answers.{stream_most, is_over, read, room_for, read_into, not_spelled, spell_if, spell_with, respell, spelling_in, respell_into, not_found, hits_in, find_asked, find_grouped, find_with, find, found_in, find_into, judging_of, judge}
+use Rattle.rules.specs.Answers.{stream_most, is_over, read, room_for, read_into, not_spelled, spell_if, spell_with, respell, spelling_in, respell_into, not_found, hits_in, find_asked, find_grouped, find_with, find, found_in, find_into, refusal, judging_of, judge}
 use Rattle.laws.proofs.Cases.{on, no, or_true}
 use Rattle.laws_scan.proofs.Bounds.{bad_place}
 use Rattle.laws_arguments.proofs.Arguments.{points_at_argument}
@@ -258,7 +258,7 @@ module _ (s list : List ℕ) where
   unfolding respell_into
   rewriter_refused room n at o = ap (spelling_in room) (respell-refused n at o)
 
-  judge-refused : (n at : ℕ) → ReadOffset s list n at → judge s list ≡ J.Refused n at
+  judge-refused : (n at : ℕ) → ReadOffset s list n at → judge s list ≡ Err (refusal n at)
   unfolding judge
   judge-refused n at o = ap (judging_of (spell_with s (width_list list))) (read-refused n at o)
 

@@ -9,10 +9,12 @@ use mathlib.Core.Path.{◌≡◌, refl, sym, ap, ◌∙◌}
 use borrow.Author.Tests.{ltb-true, ltb-false, lt-ltb}
 use lib.Dec.{ltb}
 use lib.ListN.{length, length-append}
+use lib.Seq.{take-append_seam}
+use Rattle.std.proofs.Math.Bool.{or-false}
 use Rattle.rules.specs.Bytes.{bytes, same}
 use Rattle.rules.specs.Widths.{lines_from, behind, is_list_name}
 use Rattle.rules.specs.Families.{Family, is_in, family_of, is_none, is_new_name, is_whole, name_line, same_line, family_line, FamilyList, ill_grouped, grouped, families_end, families_on, family_lines, family_list}
-use Rattle.laws.proofs.Cases.{on, no, and_left, and_right, if_on, take_front}
+use Rattle.laws.proofs.Cases.{on, no, and_left, and_right, if_on}
 use Rattle.laws_find.specs.Occurs.{Among}
 use Rattle.laws_find.specs.Written.{GoodName}
 use Rattle.laws_find.proofs.Written.{OneLine, line_front, listed_good, good_listed, no_white_line, behind_front}
@@ -33,13 +35,9 @@ unfolding is_in
 is_in_append n [] ys = refl
 is_in_append n (x ∷ xs) ys = on (same n x) (λ e. rw e) (λ e. rw e (is_in_append n xs ys))
 
-or_none : (a : Bool) → (a || false) ≡ a
-or_none true = refl
-or_none false = refl
-
 in_none : (n m : List ℕ) → is_in n (m ∷ []) ≡ same n m
 unfolding is_in
-in_none n m = or_none (same n m)
+in_none n m = or-false (same n m)
 
 family_none : (n : List ℕ) (fs : List Family) → is_none (family_of n fs) ≡ not (is_in n (all_names fs))
 unfolding family_of is_in
@@ -153,7 +151,7 @@ module _ (pre : List ℕ) (fs : List Family) (h : ReadTo pre fs) where
   ends_so = rw append-nil at (h.on_it (length pre) [])
 
   grouped_to : (post : List ℕ) → GroupedTo (pre ++ post) (length pre)
-  grouped_to post = rw (take_front pre post) (go (is_whole fs) refl)
+  grouped_to post = rw (take-append_seam pre post) (go (is_whole fs) refl)
     where
       go : (b : Bool) → is_whole fs ≡ b → ((gs : List Family) × (family_list pre ≡ grouped gs)) ⊎ (family_list pre ≡ ill_grouped (length pre))
       go true e = inl (fs, ends_so ∙ rw e)
@@ -165,7 +163,7 @@ module _ (pre : List ℕ) (fs : List Family) (h : ReadTo pre fs) where
 
   -- the first line behind pre is wrong
   offset : (post : List ℕ) → GroupedWrongAt (pre ++ post) (length pre) → FamilyOffset (pre ++ post) (length pre)
-  offset post e = record { line = h.start post; before = grouped_to post; first = λ m. rw (take_front pre post) (empty-wrong m); here = e }
+  offset post e = record { line = h.start post; before = grouped_to post; first = λ m. rw (take-append_seam pre post) (empty-wrong m); here = e }
 
   open_offset : (b : ℕ) (t : List ℕ) → OneLine (b ∷ t) → FamilyOffset (pre ++ b ∷ t) (length pre)
   open_offset b t k = offset (b ∷ t) (unended_family (open_inside pre b t) (open_end pre b t k))

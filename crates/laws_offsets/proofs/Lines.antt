@@ -6,10 +6,10 @@ use mathlib.Core.List.{List, [], ◌∷◌, ◌++◌, append_assoc, append-nil}
 use mathlib.Core.Path.{◌≡◌, refl, sym, ap, ◌∙◌}
 use borrow.Author.Tests.{eqb-true}
 use lib.ListN.{length, take, length-append}
-use lib.Seq.{get_or-append_seam}
+use lib.Seq.{get_or-append_seam, take-append_seam, drop-append_seam}
 use Rattle.rules.specs.Bytes.{is, is_not_newline, span, one_line}
 use Rattle.rules.specs.Widths.{lines_from}
-use Rattle.laws.proofs.Cases.{on, All, Stops, span_all, take_front, drop_front}
+use Rattle.laws.proofs.Cases.{on, All, Stops, span_all}
 use Rattle.laws_find.proofs.Written.{OneLine}
 use Rattle.laws_offsets.specs.Lists.{LineStart, behind_newline, line_end}
 
@@ -68,14 +68,14 @@ module _ (pre t : List ℕ) where
   -- where the line of t, behind pre, ends
   module _ (m : List ℕ) (h : OneLine t) where
     pub line_end_lem : line_end (pre ++ (t ++ 10 ∷ m)) (length pre) ≡ length pre + length t
-    line_end_lem = rw (drop_front pre (t ++ 10 ∷ m), one_line_lem t (10 ∷ m) h refl)
+    line_end_lem = rw (drop-append_seam pre (t ++ 10 ∷ m), one_line_lem t (10 ∷ m) h refl)
 
     pub line_inside : line_end (pre ++ (t ++ 10 ∷ m)) (length pre) < length (pre ++ (t ++ 10 ∷ m))
     line_inside = omega (arith, line_end_lem, length-append pre (t ++ 10 ∷ m), length-append t (10 ∷ m))
 
     -- up to behind its newline
     pub line_taken : take (line_end (pre ++ (t ++ 10 ∷ m)) (length pre) + 1) (pre ++ (t ++ 10 ∷ m)) ≡ longer
-    line_taken = rw (line_end_lem, ← longer_length, ← longer_on m) (take_front longer m)
+    line_taken = rw (line_end_lem, ← longer_length, ← longer_on m) (take-append_seam longer m)
 
 -- a line without a newline, behind pre
 module _ (pre : List ℕ) (b : ℕ) (t : List ℕ) where
@@ -85,4 +85,4 @@ module _ (pre : List ℕ) (b : ℕ) (t : List ℕ) where
   pub open_end : OneLine (b ∷ t) → line_end (pre ++ b ∷ t) (length pre) ≡ length (pre ++ b ∷ t)
   open_end h =
       let z : one_line (b ∷ t) ≡ suc (length t) = rw append-nil at (one_line_lem (b ∷ t) [] h tt) in
-      rw (drop_front pre (b ∷ t), z) (sym (length-append pre (b ∷ t)))
+      rw (drop-append_seam pre (b ∷ t), z) (sym (length-append pre (b ∷ t)))

@@ -1,4 +1,5 @@
 -- Every refusal's number is one of the table's; its reason and its offset are what the table says of that number.
+use Rattle.std.specs.Prelude.{Result, Ok, Err}
 use Prim.Native.Nat.{ℕ, ◌<◌}
 use mathlib.Core.Bool.{Bool, true, false, ◌||◌}
 use mathlib.Core.List.{List, map}
@@ -8,7 +9,7 @@ use borrow.Author.Tests.{ltb-true, ltb-false}
 use lib.Dec.{ltb}
 use lib.ListN.{length}
 use Rattle.rules.specs.declared.Judging.{Judging}
-use Rattle.rules.specs.declared.Judging.TheVariants as J
+use Rattle.rules.specs.declared.Refusal.{Refusal}
 use Rattle.rules.specs.Scan.{commands}
 use Rattle.rules.specs.Widths.{Widths, WidthList, unsound, sound, width_list}
 use Rattle.rules.specs.State.{start}
@@ -37,9 +38,9 @@ abbrev FoundIn : (ℕ → ℕ → Type 0) → Found → Type 0
 FoundIn P (not_found n at) = P n at
 FoundIn P (found rs xs) = Unit {0}
 
-abbrev JudgingIn : (ℕ → ℕ → Type 0) → Judging → Type 0
-JudgingIn P (J.Refused n at) = P n at
-JudgingIn P (J.Accepted r x p t) = Unit {0}
+abbrev JudgingIn : (ℕ → ℕ → Type 0) → Result Judging Refusal → Type 0
+JudgingIn P (Err r) = P r.number r.offset
+JudgingIn P (Ok j) = Unit {0}
 
 -- ---- the reader
 

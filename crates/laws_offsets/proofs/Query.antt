@@ -5,10 +5,11 @@ use mathlib.Core.List.{List, [], ◌∷◌, ◌++◌, append-nil, append_assoc}
 use mathlib.Core.Option.{Option, none, some}
 use mathlib.Core.Path.{◌≡◌, refl, sym, ap, ◌∙◌}
 use lib.ListN.{length, take}
+use lib.Seq.{take-append_seam, drop-append_seam}
 use Rattle.rules.specs.Bytes.{bytes, same}
 use Rattle.rules.specs.Widths.{lines_from, behind}
 use Rattle.rules.specs.Find.{Gap, Wanted, Expected, first_glyph, gap_glyph, either, Query, ill_formed, well_formed, query_ends, with_wanted, gap_of, may_ask, query_line, query_lines, query}
-use Rattle.laws.proofs.Cases.{if_on, take_front, drop_front}
+use Rattle.laws.proofs.Cases.{if_on}
 use Rattle.laws_find.specs.Written.{gap_line}
 use Rattle.laws.proofs.Same.{same_eq}
 use Rattle.laws_find.proofs.Written.{OneLine, line_front}
@@ -43,7 +44,7 @@ front_taken : (pre post : List ℕ) (p : ℕ) (b : Parted pre p) → take (lengt
 front_taken pre post p b =
     ap (λ (u : List ℕ). take (length b.front) (u ++ post)) b.whole
     ∙ ap (take (length b.front)) (append_assoc b.front gap_line post)
-    ∙ take_front b.front (gap_line ++ post)
+    ∙ take-append_seam b.front (gap_line ++ post)
 
 abbrev pub Behind : List ℕ → Expected → Type 0
 Behind pre first_glyph = pre ≡ []
@@ -73,8 +74,8 @@ module _ (pre : List ℕ) (n : ℕ) (x : Expected) (h : ReadTo pre n x) where
     where
       go : (y : Expected) → Behind pre y → query pre ≡ prefixed h.ws (query_ends y) → AskedTo (pre ++ post) (length pre)
       go first_glyph b e = nothing (ap length b)
-      go (gap_glyph p) b e = gap_behind (length b.front) b.asked (rw (front_taken pre post p b) b.fine) (rw (take_front pre post, front_taken pre post p b) b.whole)
-      go either b e = glyphs (h.ws ++ []) (rw (take_front pre post) e)
+      go (gap_glyph p) b e = gap_behind (length b.front) b.asked (rw (front_taken pre post p b) b.fine) (rw (take-append_seam pre post, front_taken pre post p b) b.whole)
+      go either b e = glyphs (h.ws ++ []) (rw (take-append_seam pre post) e)
 
   -- a line of the text t is wrong
   wrong_so : (t m : List ℕ) → OneLine t → ((go : ℕ → Expected → Query) → query_line n x (length pre) t go (behind (bytes "glyph=") t) ≡ ill_formed (length pre))
@@ -92,7 +93,7 @@ module _ (pre : List ℕ) (n : ℕ) (x : Expected) (h : ReadTo pre n x) where
 
   -- the first line behind pre is wrong
   offset : (post : List ℕ) → AskedWrongAt (pre ++ post) (length pre) → QueryOffset (pre ++ post) (length pre)
-  offset post e = record { line = h.start post; before = asked_to post; first = λ m. rw (take_front pre post) (empty-wrong m); here = e }
+  offset post e = record { line = h.start post; before = asked_to post; first = λ m. rw (take-append_seam pre post) (empty-wrong m); here = e }
 
   open_offset : (b : ℕ) (t : List ℕ) → OneLine (b ∷ t) → QueryOffset (pre ++ b ∷ t) (length pre)
   open_offset b t k = offset (b ∷ t) (unended_line (open_inside pre b t) (open_end pre b t k))
@@ -139,9 +140,9 @@ wanted_claim q g name (well_formed qs) h = h
 gap_offset : (pre : List ℕ) (p : ℕ) → Parted pre p → QueryOffset pre p
 gap_offset pre p b = rw (b.whole, b.place) (record {
   line = b.start;
-  before = glyphs b.asked (rw (take_front b.front gap_line) b.fine);
-  first = λ m. rw (take_front b.front gap_line) (b.empty_next m);
-  here = last_gap (drop_front b.front gap_line) b.asked (rw (take_front b.front gap_line) b.fine);
+  before = glyphs b.asked (rw (take-append_seam b.front gap_line) b.fine);
+  first = λ m. rw (take-append_seam b.front gap_line) (b.empty_next m);
+  here = last_gap (drop-append_seam b.front gap_line) b.asked (rw (take-append_seam b.front gap_line) b.fine);
 })
 
 end_claim : (pre : List ℕ) (n : ℕ) (x : Expected) → ReadTo pre n x → Claim pre (query_ends x)

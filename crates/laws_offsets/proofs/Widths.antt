@@ -5,9 +5,10 @@ use mathlib.Core.List.{List, [], ◌∷◌, ◌++◌, append-nil}
 use mathlib.Core.Logic.{◌⊎◌, inl, inr}
 use mathlib.Core.Path.{◌≡◌, refl, sym, ap, ◌∙◌}
 use lib.ListN.{length}
+use lib.Seq.{take-append_seam}
 use Rattle.rules.specs.Bytes.{bytes, span, one_line}
 use Rattle.rules.specs.Widths.{lines_from, behind, Widths, Due, unit_due, block_due, width_due, LineRead, wrong_line, right_line, line_says, WidthList, unsound, sound, list_ends, line_on, lines_say, width_list}
-use Rattle.laws.proofs.Cases.{no, take_front}
+use Rattle.laws.proofs.Cases.{no}
 use Rattle.laws_find.proofs.Written.{OneLine, line_front}
 use Rattle.laws_offsets.specs.Lists.{LineStart, first_line, RightTo, WrongAt, unended, wrong_line_lem, missing, ListOffset}
 use Rattle.laws_offsets.proofs.Lines.{Lines, no_line, open_line, one_more, lines, open_front, is_line, longer, longer_on, longer_length, longer_start, line_inside, line_taken, open_inside, open_end}
@@ -46,7 +47,7 @@ module _ (pre : List ℕ) (w : Widths) (d : Due) (h : ReadTo pre w d) where
   ends_so = rw append-nil at (h.on (length pre) [])
 
   right_to : (post : List ℕ) → RightTo (pre ++ post) (length pre)
-  right_to post = rw (take_front pre post) (go d ends_so)
+  right_to post = rw (take-append_seam pre post) (go d ends_so)
     where
       go : (x : Due) → width_list pre ≡ list_ends (length pre) w x → ((v : Widths) × (width_list pre ≡ sound v)) ⊎ (width_list pre ≡ unsound (length pre))
       go unit_due e = inr e
@@ -61,7 +62,7 @@ module _ (pre : List ℕ) (w : Widths) (d : Due) (h : ReadTo pre w d) where
 
   -- the first line behind pre is wrong
   offset : (post : List ℕ) → WrongAt (pre ++ post) (length pre) → ListOffset (pre ++ post) (length pre)
-  offset post e = record { line = h.start post; before = right_to post; first = λ m. rw (take_front pre post) (wrong_so [] m tt (empty-wrong d)); here = e }
+  offset post e = record { line = h.start post; before = right_to post; first = λ m. rw (take-append_seam pre post) (wrong_so [] m tt (empty-wrong d)); here = e }
 
   open_offset : (b : ℕ) (t : List ℕ) → OneLine (b ∷ t) → ListOffset (pre ++ b ∷ t) (length pre)
   open_offset b t k = offset (b ∷ t) (unended (open_inside pre b t) (open_end pre b t k))

@@ -1,12 +1,11 @@
 -- Document 01, "Refusal numbers and their order", with 14 by 2026-01 and 16 by 2026-06: which numbers each routine refuses with, for which
 -- reason, where each of them points, and which comes first. The proofs stand in `proofs/`.
-use Rattle.std.specs.Prelude.{ℕ, ◌<◌, ◌≤◌, List, [], ◌⊎◌, ◌≡◌, eqb, length, if◌then◌else◌}
-use Rattle.rules.specs.declared.Judging.TheVariants as J
+use Rattle.std.specs.Prelude.{ℕ, ◌<◌, ◌≤◌, List, [], ◌⊎◌, ◌≡◌, eqb, length, Err, if◌then◌else◌}
 use Rattle.rules.specs.Widths.{Widths, unsound, sound, width_list}
 use Rattle.rules.specs.Record.{refuse}
 use Rattle.rules.specs.Families.{Family, ill_grouped, grouped, family_list}
 use Rattle.rules.specs.Find.{Wanted, ill_formed, well_formed, query}
-use Rattle.rules.specs.Answers.{read, read_into, not_spelled, respell, respell_into, not_found, find, find_into, judge}
+use Rattle.rules.specs.Answers.{read, read_into, not_spelled, respell, respell_into, not_found, find, find_into, refusal, judge}
 use Rattle.laws_offsets.specs.Stream.{FirstByte, ArgumentAt, BarredAt, StreamOffset}
 use Rattle.laws_offsets.specs.Lists.{ListOffset, FamilyOffset, QueryOffset}
 
@@ -51,7 +50,7 @@ pub record Offsets : Type 0 where
   pub rewriter : (room : ℕ) (s list : List ℕ) (n at : ℕ) → respell_into room s list ≡ not_spelled n at → OrRoom (ReadOffset s list) n at
   pub finds : (s list fl q : List ℕ) (n at : ℕ) → find s list fl q ≡ not_found n at → FindOffset s list fl q n at
   pub finder : (records hits : ℕ) (s list fl q : List ℕ) (n at : ℕ) → find_into records hits s list fl q ≡ not_found n at → OrRoom (FindOffset s list fl q) n at
-  pub judges : (s list : List ℕ) (n at : ℕ) → judge s list ≡ J.Refused n at → ReadOffset s list n at
+  pub judges : (s list : List ℕ) (n at : ℕ) → judge s list ≡ Err (refusal n at) → ReadOffset s list n at
 
 -- ---- the same by numbers, and: every offset lies in its input, at most its length
 
@@ -83,7 +82,7 @@ pub record ByNumber : Type 0 where
   pub reader : (records entries : ℕ) (s list : List ℕ) (n at : ℕ) → read_into records entries s list ≡ refuse n at → Said s list [] [] n at × (n ≡ 12 → ⊥) × (n ≡ 14 → ⊥)
   pub rewriter : (room : ℕ) (s list : List ℕ) (n at : ℕ) → respell_into room s list ≡ not_spelled n at → Said s list [] [] n at × (n ≡ 12 → ⊥) × (n ≡ 14 → ⊥)
   pub finder : (records hits : ℕ) (s list fl q : List ℕ) (n at : ℕ) → find_into records hits s list fl q ≡ not_found n at → Said s list fl q n at
-  pub judge : (s list : List ℕ) (n at : ℕ) → judge s list ≡ J.Refused n at → Said s list [] [] n at × InTableTo 11 n
+  pub judge : (s list : List ℕ) (n at : ℕ) → judge s list ≡ Err (refusal n at) → Said s list [] [] n at × InTableTo 11 n
 
 -- ---- "Each is given exactly for its reason."
 
@@ -96,7 +95,7 @@ pub record Exactly : Type 0 where
   pub rewriter : (room : ℕ) (s list : List ℕ) (n at : ℕ) → ReadOffset s list n at → respell_into room s list ≡ not_spelled n at
   pub finds : (s list fl q : List ℕ) (n at : ℕ) → FindOffset s list fl q n at → find s list fl q ≡ not_found n at
   pub finder : (records hits : ℕ) (s list fl q : List ℕ) (n at : ℕ) → FindOffset s list fl q n at → find_into records hits s list fl q ≡ not_found n at
-  pub judges : (s list : List ℕ) (n at : ℕ) → ReadOffset s list n at → judge s list ≡ J.Refused n at
+  pub judges : (s list : List ℕ) (n at : ℕ) → ReadOffset s list n at → judge s list ≡ Err (refusal n at)
   -- a place of a list or of a query that has what is said of it is the one at which the rules refuse it
   pub list : (list : List ℕ) (at : ℕ) → ListOffset list at → width_list list ≡ unsound at
   pub families : (fl : List ℕ) (at : ℕ) → FamilyOffset fl at → family_list fl ≡ ill_grouped at

@@ -7,7 +7,7 @@ use mathlib.Core.Option.{Option, none, some}
 use mathlib.Core.Path.{◌≡◌, refl, sym, ap, ap₂, subst, ◌∙◌}
 use lib.Dec.{ltb}
 use Rattle.rules.specs.Bytes.{origin}
-use Rattle.rules.specs.Act.{Axis, across, Act, glyph, index, to, by, page, font, size, colour, break, space, draw, device, resolution, init, file, mount, plain, raw, stop, Cmd, just, word, pair}
+use Rattle.rules.specs.Act.{across, Act, glyph, index, to, by, page, font, size, colour, break, space, draw, device, resolution, init, file, mount, plain, raw, stop, Cmd, just, word, pair}
 use Rattle.rules.specs.Drawing.{way_of}
 use Rattle.rules.specs.Widths.{Widths, Font, width_of}
 use Rattle.rules.specs.State.{get, put, fits, plus, may_go, spot_after, filled, with_font, recorded, indexed, mounted_at, is_mounted, Env, start, set_spot, set_font, set_fill_paint, Glyph, Item, item_at, Step, refused, went, before, and_then, on_page, due, effect, act, run, Acts, no_acts, these, ready, byte_acts, word_acts, word_in, acts, perform, steps}

@@ -1,11 +1,10 @@
 -- The house spelling keeps the place before each glyph, `N`, `D`, `x X` and `x s`.
-use Rattle.std.specs.Prelude.{if◌then◌else◌}
 use Prim.Native.Nat.{ℕ}
 use mathlib.Core.Bool.{true}
 use mathlib.Core.List.{List, [], ◌∷◌, ◌++◌, map, append_assoc, append-nil}
 use mathlib.Core.Path.{◌≡◌, refl, sym, ap, ap₂, ◌∙◌}
 use lib.Dec.{eqb}
-use Rattle.rules.specs.Act.{across, down, Act, glyph, index, to, by, page, font, size, colour, break, space, draw, device, resolution, init, file, mount, plain, raw, stop, Cmd, just}
+use Rattle.rules.specs.Act.{Act, glyph, index, to, by, page, font, size, colour, break, space, draw, device, resolution, init, file, mount, plain, raw, stop, Cmd, just}
 use Rattle.rules.specs.Widths.{Widths}
 use Rattle.rules.specs.State.{Spot, corner, Env, start, set_spot, Glyph, Item, Step, refused, went, before, and_then, on_page, act, run, Acts, no_acts, these, acts, perform, steps}
 use Rattle.rules.specs.House.{Manner, anchored, floating, turning, moving, manner, moves, kept, pen, onward, house, play_on, played, spelling}

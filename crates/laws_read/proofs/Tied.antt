@@ -8,8 +8,8 @@ use mathlib.Core.Path.{◌≡◌, refl, sym, ap, ap₂, ◌∙◌}
 use lib.Dec.{eqb}
 use borrow.Author.Tests.{eqb-true, eq-eqb, lt-ltb}
 use Rattle.rules.specs.Bytes.{origin}
-use Rattle.rules.specs.Act.{Axis, across, down, Act, glyph, index, to, by, page, font, size, colour, break, space, draw, device, resolution, init, file, mount, plain, raw, stop}
-use Rattle.rules.specs.State.{Spot, get, put, fits, plus, mounted_at, is_mounted, to_font, Env, set_spot, set_font, Glyph, Item, Step, refused, went, before, and_then, in_body, on_page, due, effect, act, run}
+use Rattle.rules.specs.Act.{down, Act, glyph, index, to, by, page, font, size, colour, break, space, draw, device, resolution, init, file, mount, plain, raw, stop}
+use Rattle.rules.specs.State.{Spot, get, put, fits, plus, mounted_at, is_mounted, Env, set_spot, set_font, Glyph, Item, Step, refused, went, before, and_then, in_body, on_page, due, effect, act, run}
 use Rattle.rules.specs.House.{Manner, anchored, floating, turning, moving, manner, moves, kept, pen, onward, house}
 use Rattle.laws.proofs.Cases.{on, no, if_both}
 use Rattle.laws_read.proofs.Runs.{well, run-append, before_nil, well_before, one_act}

@@ -1,8 +1,8 @@
 -- The outline of a stream: what of its commands finding goes by, whatever the commands by which it was set. Definitions that the
 -- theorems of demand 3 name.
-use Rattle.std.specs.Prelude.{ℕ, ◌+◌, ◌-◌, Bool, true, false, List, [], ◌∷◌, ◌++◌, map, ltb, if◌then◌else◌}
+use Rattle.std.specs.Prelude.{ℕ, ◌+◌, ◌-◌, List, [], ◌∷◌, ◌++◌, map, ltb, if◌then◌else◌}
 use Rattle.rules.specs.Bytes.{origin}
-use Rattle.rules.specs.Act.{Axis, Shape, Scheme, Plain, Act, glyph, index, to, by, page, font, size, colour, break, space, draw, device, resolution, init, file, mount, plain, raw, stop, Cmd, just, word, pair}
+use Rattle.rules.specs.Act.{Act, glyph, index, to, by, page, font, size, colour, break, space, draw, device, resolution, init, file, mount, plain, raw, stop, Cmd, just, word, pair}
 use Rattle.rules.specs.Find.{Key}
 
 -- a glyph with its name, a glyph by its index, a gap, a page

@@ -9,12 +9,13 @@ use mathlib.Core.Path.{◌≡◌, refl, sym, ap, ap₂, subst, ◌∙◌}
 use lib.Dec.{eqb}
 use lib.ListN.{length, take, drop, take-append-drop, length-append, length-take}
 use borrow.Author.Tests.{leb-true, le-leb, eqb-true}
+use lib.Seq.{take-append_seam, drop-append_seam}
 use Rattle.rules.specs.Bytes.{is, is_space, is_not_white, spacer, unspaced, string, Num, Int, no_int, int, integer, most, origin, moved, near, Nums, short, nums, with_num, after_int, integers, is_present, perhaps_integer}
 use Rattle.rules.specs.Act.{Shape, circle, solid_circle, break, draw, Cmd, just, word}
 use Rattle.rules.specs.Letters.{Draft, fault, draft, with_all, ignoring, named, number_named, white_next, followed_by_white, with_dummy}
 use Rattle.rules.specs.Drawing.{line_ends, closed, dummy_behind, drawing}
 use Rattle.rules.specs.Scan.{letter, cmd_limits, is_small, outside, judged_by, judged, got, command}
-use Rattle.laws.proofs.Cases.{on, no, if_both, and_left, and_right, All, span_all, all_span, length-span, take_front, drop_front}
+use Rattle.laws.proofs.Cases.{on, no, if_both, and_left, and_right, All, span_all, all_span, length-span}
 use Rattle.laws.proofs.Clear.{cleared-got}
 use Rattle.laws.proofs.Good.{all_true}
 use Rattle.laws.proofs.Limits.{near_bounds}
@@ -144,10 +145,10 @@ module _ (r text t : List ℕ) (len : ℕ) (whole : r ≡ text ++ t) (long : len
   back = omega (arith, long)
 
   text_is : take (len - 1) r ≡ text
-  text_is = ap₂ (λ (n : ℕ) (y : List ℕ). take n y) back whole ∙ take_front text t
+  text_is = ap₂ (λ (n : ℕ) (y : List ℕ). take n y) back whole ∙ take-append_seam text t
 
   rest_is : drop (len - 1) r ≡ t
-  rest_is = ap₂ (λ (n : ℕ) (y : List ℕ). drop n y) back whole ∙ drop_front text t
+  rest_is = ap₂ (λ (n : ℕ) (y : List ℕ). drop n y) back whole ∙ drop-append_seam text t
 
 -- ---- `n`
 
@@ -306,7 +307,7 @@ circle-small s x r c name len h w e = shaped w (closed-got (drawing (1 + length 
     far = span_all is_space s (x ∷ r) (are_spaces s h) (no_space w)
 
     go : (n : ℕ) → n ≡ length s → judged (closed (drawing (1 + n) (drop n (s ++ (x ∷ r))))) ≡ got c name len → judged (closed (drawing (1 + length s) (x ∷ r))) ≡ got c name len
-    go n q f = ap₂ (λ (i : ℕ) (t : List ℕ). judged (closed (drawing (1 + i) t))) (sym q) (sym (ap (λ (i : ℕ). drop i (s ++ (x ∷ r))) q ∙ drop_front s (x ∷ r))) ∙ f
+    go n q f = ap₂ (λ (i : ℕ) (t : List ℕ). judged (closed (drawing (1 + i) t))) (sym q) (sym (ap (λ (i : ℕ). drop i (s ++ (x ∷ r))) q ∙ drop-append_seam s (x ∷ r))) ∙ f
 
     found : Dummied (1 + length s + 1) r len → (i : List ℕ) × (d : List ℕ) × (take (len - 1) (s ++ (x ∷ r)) ≡ s ++ (x ∷ (i ++ d))) × Integers 1 i × Dummy d
     found y =

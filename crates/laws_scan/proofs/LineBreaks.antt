@@ -9,13 +9,14 @@ use mathlib.Core.Path.{◌≡◌, refl, sym, ap, subst, ◌∙◌}
 use lib.Dec.{eqb}
 use lib.ListN.{length, take, drop}
 use borrow.Author.Tests.{eqb-true, ne_eqb}
+use lib.Seq.{drop-append_seam}
 use Rattle.rules.specs.Bytes.{is, is_space, is_white, is_not_white, is_digit, spacer, unspaced, string, Num, origin, moved, Nums, short, nums, integers, perhaps_integer}
 use Rattle.rules.specs.Act.{across, down, Scheme, height, slant, pause, trailer, underline, Act, glyph, index, to, by, page, font, size, colour, break, device, init, file, mount, raw, stop, Cmd, just, word, pair}
 use Rattle.rules.specs.Letters.{Draft, fault, draft, with_one, with_all, ignoring, one_byte, named, number_named, followed_by_white, with_dummy, second_digit, scheme_of, components, in_scheme, coloured}
 use Rattle.rules.specs.Drawing.{line_ends, closed, drawing}
 use Rattle.rules.specs.Controls.{alone, resolution_of, plainly, raw_text, control, control_word}
 use Rattle.rules.specs.Scan.{letter, cmd_limits, is_small, outside, judged_by, judged, command, Scan, got, bad}
-use Rattle.laws.proofs.Cases.{on, no, if_both, if_on, All, Stops, span_all, drop_front}
+use Rattle.laws.proofs.Cases.{on, no, if_both, if_on, All, Stops, span_all}
 use Rattle.laws.proofs.Clear.{cleared-got}
 use Rattle.laws_scan.specs.Texts.{Spacer, NoWhite, WhiteOrEnd, LineEnds, at_end, at_newline, at_comment, behind-space, behind_tab, ends_its_line, LineBreaks}
 use Rattle.laws_scan.proofs.Bounds.{DraftIn, letter_in}
@@ -259,7 +260,7 @@ unfolding letter
 missing-control s b w t h g n m e =
     let far : spacer (s ++ (b ∷ (w ++ t))) ≡ length s = span_all is_space s (b ∷ (w ++ t)) (are_spaces s h) (bare-seen b g).0 in
     let long : string (w ++ t) ≡ length w = span_all is_not_white w t (are_not-white w n) (white_stops t m) in
-    rw (far, drop_front s (b ∷ (w ++ t)), (bare-seen b g).1, long, drop_front w t, bare-closed b (1 + length s + 1 + length w) t g (not-ended t e))
+    rw (far, drop-append_seam s (b ∷ (w ++ t)), (bare-seen b g).1, long, drop-append_seam w t, bare-closed b (1 + length s + 1 + length w) t g (not-ended t e))
 
 pub line_breaks : LineBreaks
 unfolding letter
