@@ -4,9 +4,11 @@
 ghost use Rattle.std.specs.Prelude.{◌≡◌, ◌<◌, length};
 ghost use Rattle.scan_command.specs.View.{command_at};
 
-use scan_command::Command;
+use rules::Refusal;
+use scan_command::{Axis, Command};
 
-pub fn scan(s: &[u8], at: usize) -> Command
+#[tactic(auto, unfolding(scan_command::specs::View::letter_at, scan_command::specs::View::command_at, rules::specs::Scan::letter))]
+pub fn scan(s: &[u8], at: usize) -> Result<Command, Refusal>
     requires { at < length s.now }
     ensures { result ≡ command_at s.now at }
 {
@@ -17,10 +19,10 @@ pub fn scan(s: &[u8], at: usize) -> Command
         b'N' => scan_glyphs::index(s, at),
         b't' => scan_glyphs::word(s, at),
         b'u' => scan_glyphs::tracked(s, at),
-        b'H' => scan_motions::to_h(s, at),
-        b'h' => scan_motions::by_h(s, at),
-        b'V' => scan_motions::to_v(s, at),
-        b'v' => scan_motions::by_v(s, at),
+        b'H' => scan_motions::to(s, at, Axis::Across),
+        b'h' => scan_motions::by(s, at, Axis::Across),
+        b'V' => scan_motions::to(s, at, Axis::Down),
+        b'v' => scan_motions::by(s, at, Axis::Down),
         b'p' => scan_motions::page(s, at),
         b'f' => scan_motions::font(s, at),
         b's' => scan_motions::size(s, at),
@@ -30,9 +32,9 @@ pub fn scan(s: &[u8], at: usize) -> Command
         b'D' => scan_drawings::drawing(s, at),
         b'x' => scan_controls::control(s, at),
         b'0'..=b'9' => scan_glyphs::two_digits(s, at, b),
-        _ => Command::Refused {
+        _ => Err(Refusal {
             number: 3,
-            place: at,
-        },
+            offset: at,
+        }),
     }
 }

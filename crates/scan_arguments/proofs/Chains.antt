@@ -1,37 +1,31 @@
 -- Integers one behind the other, at places of the whole list: the first one, and what is read behind it.
+use Rattle.std.specs.Prelude.{if◌then◌else◌, Option, Some, None, Result, Ok, Err}
 use Prim.Native.Nat.{ℕ, zero, suc, ◌+◌}
-use mathlib.Core.Bool.{Bool, true, false, ◌||◌}
-use mathlib.Core.List.{List, [], ◌∷◌}
-use mathlib.Core.Path.{◌≡◌, refl, sym, ap, ◌∙◌}
+use mathlib.Core.Bool.{◌||◌}
+use mathlib.Core.List.{List, [], ◌∷◌, map}
+use mathlib.Core.Path.{◌≡◌, refl, ap, ◌∙◌}
 use lib.Dec.{eqb}
-use lib.ListN.{drop, get_or}
+use lib.ListN.{length, drop, get_or}
 use lib.Seq.{drop-drop}
 use Rattle.rules.specs.Bytes.{is_space, is_digit, unspaced, Num, Int, no_int, int, integer, moved, Nums, short, nums, with_num, after_int, integers, is_present, perhaps_integer}
+use Rattle.rules.specs.declared.Refusal.{Refusal}
+use Rattle.rules.specs.Answers.{refusal, and_then}
 use Rattle.scan_lex.specs.At.{run_end}
 use Rattle.scan_integer.specs.At.{cut, number_of, integer_at}
-use Rattle.scan_arguments.specs.At.{one_of, one_at, two_of, two_at, three_of, three_at, four_of, four_at, perhaps_of, perhaps_at}
+use Rattle.scan_arguments.specs.At.{one_of, one_at, due_of, due_at, args_at, perhaps_of, perhaps_at}
 use Rattle.scan_arguments.specs.Parts.{present_at}
 use Rattle.scan_integer.specs.declared.Number.{Number}
-use Rattle.scan_integer.specs.declared.Number.TheVariants as N
-use Rattle.scan_arguments.specs.declared.One.{One}
-use Rattle.scan_arguments.specs.declared.One.TheVariants as A
-use Rattle.scan_arguments.specs.declared.Two.{Two}
-use Rattle.scan_arguments.specs.declared.Two.TheVariants as B
-use Rattle.scan_arguments.specs.declared.Three.{Three}
-use Rattle.scan_arguments.specs.declared.Three.TheVariants as C
-use Rattle.scan_arguments.specs.declared.Four.{Four}
-use Rattle.scan_arguments.specs.declared.Four.TheVariants as D
-use Rattle.scan_arguments.specs.declared.Perhaps.{Perhaps}
-use Rattle.scan_arguments.specs.declared.Perhaps.TheVariants as P
-use Rattle.scan_lex.proofs.Runs.{unspaced_at, runs}
+use Rattle.scan_arguments.specs.declared.Argument.{Argument}
+use Rattle.scan_lex.proofs.Runs.{unspaced_at}
+use Rattle.laws.proofs.Cases.{on}
 
 -- the place behind a spacer
 abbrev pub behind : List ℕ → ℕ → ℕ
-behind s at = run_end is_space s at
+behind s i = run_end is_space s i
 
 -- n integers from a place on
 abbrev pub ints : List ℕ → ℕ → ℕ → Nums
-ints s n at = integers n at (drop at s)
+ints s n i = integers n i (drop i s)
 
 -- an integer at a place, and what is read behind it
 abbrev pub then_at : ℕ → (ℕ → Nums) → Int → Nums
@@ -42,125 +36,123 @@ pub after_at : (s : List ℕ) (k : ℕ) (go : ℕ → List ℕ → Nums) (x : In
 after_at s k go no_int = refl
 after_at s k go (int n l) = ap (λ (t : List ℕ). with_num n k (go (k + l) t)) (drop-drop l k s)
 
-module _ (s : List ℕ) (at : ℕ) where
+module _ (s : List ℕ) (i : ℕ) where
   pub after_spaced : (go : ℕ → List ℕ → Nums) →
-      after_int (behind s at) (unspaced (drop at s)) go (integer (unspaced (drop at s))) ≡ then_at (behind s at) (λ j. go j (drop j s)) (integer (drop (behind s at) s))
-  after_spaced go = rw (unspaced_at s at) (after_at s (behind s at) go (integer (drop (behind s at) s)))
+      after_int (behind s i) (unspaced (drop i s)) go (integer (unspaced (drop i s))) ≡ then_at (behind s i) (λ j. go j (drop j s)) (integer (drop (behind s i) s))
+  after_spaced go = rw (unspaced_at s i) (after_at s (behind s i) go (integer (drop (behind s i) s)))
 
-  pub ints_more : (n : ℕ) → ints s (suc n) at ≡ then_at (behind s at) (ints s n) (integer (drop (behind s at) s))
+  pub ints_more : (n : ℕ) → ints s (suc n) i ≡ then_at (behind s i) (ints s n) (integer (drop (behind s i) s))
   unfolding integers run_end
   ints_more n = after_spaced (λ j t. integers n j t)
 
 -- ---- one integer
 
-abbrev pub one_from : ℕ → Number → One
-one_from k N.Missing = A.Short
-one_from k (N.Value v n) = A.Read v k n
+abbrev pub one_from : ℕ → Option Number → Option Argument
+one_from k None = None
+one_from k (Some n) = Some (record { number = n.value; place = k; next = n.next })
 
 one_first : (s : List ℕ) (k : ℕ) (x : Int) → one_of (then_at k (ints s 0) x) ≡ one_from k (number_of k x)
 unfolding integers
 one_first s k no_int = refl
 one_first s k (int n l) = refl
 
-pub one_is : (s : List ℕ) (at : ℕ) → one_at s at ≡ one_from (behind s at) (integer_at s (behind s at))
+pub one_is : (s : List ℕ) (i : ℕ) → one_at s i ≡ one_from (behind s i) (integer_at s (behind s i))
 unfolding one_at integer_at
-one_is s at = ap one_of (ints_more s at 0) ∙ one_first s (behind s at) (integer (drop (behind s at) s))
+one_is s i = ap one_of (ints_more s i 0) ∙ one_first s (behind s i) (integer (drop (behind s i) s))
 
-module _ (s : List ℕ) (at k : ℕ) (q : Number) (p : k ≡ run_end is_space s at) (g : q ≡ integer_at s k) where
-  pub one_short : q ≡ N.Missing → A.Short ≡ one_at s at
-  one_short h = sym (one_is s at ∙ rw (← p, ← g, h))
+-- ---- arguments that are due: what a chain of them answers, by what the definitions read at its place
 
-  pub one_read : (v n : ℕ) → q ≡ N.Value v n → A.Read v k n ≡ one_at s at
-  one_read v n h = sym (one_is s at ∙ rw (← p, ← g, h))
+module _ {R : Type 0} (at : ℕ) (s : List ℕ) where
+  -- P holds of what is read and what is answered: where there is no argument, and where there is one
+  pub by_first : (n i : ℕ) (f : Argument → Result R Refusal) (P : Nums → Result R Refusal → Type 0)
+      → P short (Err (refusal 4 at))
+      → ((a : Argument) (m : Num) → a.number ≡ cut (moved m) → P (with_num m a.place (ints s n a.next)) (f a))
+      → P (ints s (suc n) i) (and_then (due_at at s i) f)
+  unfolding integer_at
+  by_first n i f P none some = rw (ints_more s i n, one_is s i) (go (integer (drop (behind s i) s)))
+    where
+      go : (x : Int) → P (then_at (behind s i) (ints s n) x) (and_then (due_of at (one_from (behind s i) (number_of (behind s i) x))) f)
+      go no_int = none
+      go (int m l) = some (record { number = cut (moved m); place = behind s i; next = behind s i + l }) m refl
 
--- ---- one integer more: a view of the integers is that of the first one and of what is read behind it
-
-abbrev pub first_then : {R : Type 0} → R → (ℕ → ℕ → ℕ → R) → One → R
-first_then z f A.Short = z
-first_then z f (A.Read a k i) = f a k i
-
-module _ {R : Type 0} (view : Nums → R) (more : ℕ → ℕ → Nums → R) (fits : (a : Num) (k : ℕ) (x : Nums) → view (with_num a k x) ≡ more (cut (moved a)) k x) (s : List ℕ) (n : ℕ) where
-  first_then_lem : (k : ℕ) (x : Int) → view (then_at k (ints s n) x) ≡ first_then (view short) (λ a j i. more a j (ints s n i)) (one_of (then_at k (ints s 0) x))
+  pub by_one : (i : ℕ) (f : Argument → Result R Refusal) (P : Nums → Result R Refusal → Type 0)
+      → P short (Err (refusal 4 at))
+      → ((a : Argument) (m : Num) → a.number ≡ cut (moved m) → P (nums (m ∷ []) (a.place ∷ []) a.next (drop a.next s)) (f a))
+      → P (ints s 1 i) (and_then (due_at at s i) f)
   unfolding integers
-  first_then_lem k no_int = refl
-  first_then_lem k (int a l) = fits a k (ints s n (k + l))
+  by_one i f P none some = by_first 0 i f P none some
 
-  pub chain : (at : ℕ) → view (ints s (suc n) at) ≡ first_then (view short) (λ a j i. more a j (ints s n i)) (one_at s at)
-  unfolding one_at
-  chain at =
-      ap view (ints_more s at n) ∙ first_then_lem (behind s at) (integer (drop (behind s at) s))
-      ∙ ap (λ (x : Nums). first_then (view short) (λ a j i. more a j (ints s n i)) (one_of x)) (sym (ints_more s at 0))
+  pub by_two : (i : ℕ) (f : Argument → Argument → Result R Refusal) (P : Nums → Result R Refusal → Type 0)
+      → P short (Err (refusal 4 at))
+      → ((a b : Argument) (m n : Num) → a.number ≡ cut (moved m) → b.number ≡ cut (moved n)
+      → P (nums (m ∷ n ∷ []) (a.place ∷ b.place ∷ []) b.next (drop b.next s)) (f a b))
+      → P (ints s 2 i) (and_then (due_at at s i) (λ a. and_then (due_at at s a.next) (f a)))
+  by_two i f P none some =
+      by_first 1 i (λ a. and_then (due_at at s a.next) (f a)) P none
+      (λ a m g. by_one a.next (f a) (λ x r. P (with_num m a.place x) r) none (λ b n h. some a b m n g h))
 
-abbrev pub two_then : ℕ → ℕ → One → Two
-two_then a k A.Short = B.Short
-two_then a k (A.Read b j l) = B.Read a b k j l
+  pub by_three : (i : ℕ) (f : Argument → Argument → Argument → Result R Refusal) (P : Nums → Result R Refusal → Type 0)
+      → P short (Err (refusal 4 at))
+      → ((a b c : Argument) (m n o : Num) → a.number ≡ cut (moved m) → b.number ≡ cut (moved n) → c.number ≡ cut (moved o)
+      → P (nums (m ∷ n ∷ o ∷ []) (a.place ∷ b.place ∷ c.place ∷ []) c.next (drop c.next s)) (f a b c))
+      → P (ints s 3 i) (and_then (due_at at s i) (λ a. and_then (due_at at s a.next) (λ b. and_then (due_at at s b.next) (f a b))))
+  by_three i f P none some =
+      by_first 2 i (λ a. and_then (due_at at s a.next) (λ b. and_then (due_at at s b.next) (f a b))) P none
+      (λ a m g. by_two a.next (f a) (λ x r. P (with_num m a.place x) r) none (λ b c n o h k. some a b c m n o g h k))
 
-abbrev pub three_then : ℕ → ℕ → Two → Three
-three_then a k B.Short = C.Short
-three_then a k (B.Read b c i j l) = C.Read a b c k i j l
+  pub by_four : (i : ℕ) (f : Argument → Argument → Argument → Argument → Result R Refusal) (P : Nums → Result R Refusal → Type 0)
+      → P short (Err (refusal 4 at))
+      → ((a b c d : Argument) (m n o p : Num) → a.number ≡ cut (moved m) → b.number ≡ cut (moved n) → c.number ≡ cut (moved o) → d.number ≡ cut (moved p)
+      → P (nums (m ∷ n ∷ o ∷ p ∷ []) (a.place ∷ b.place ∷ c.place ∷ d.place ∷ []) d.next (drop d.next s)) (f a b c d))
+      → P (ints s 4 i) (and_then (due_at at s i) (λ a. and_then (due_at at s a.next) (λ b. and_then (due_at at s b.next) (λ c. and_then (due_at at s c.next) (f a b c)))))
+  by_four i f P none some =
+      by_first 3 i (λ a. and_then (due_at at s a.next) (λ b. and_then (due_at at s b.next) (λ c. and_then (due_at at s c.next) (f a b c)))) P none
+      (λ a m g. by_three a.next (f a) (λ x r. P (with_num m a.place x) r) none (λ b c d n o p h k l. some a b c d m n o p g h k l))
 
-abbrev pub four_then : ℕ → ℕ → Three → Four
-four_then a k C.Short = D.Short
-four_then a k (C.Read b c d h i j l) = D.Read a b c d k h i j l
+-- ---- n arguments that are due
 
-two_fits : (a : Num) (k : ℕ) (x : Nums) → two_of (with_num a k x) ≡ two_then (cut (moved a)) k (one_of x)
-two_fits a k short = refl
-two_fits a k (nums [] ks l t) = refl
-two_fits a k (nums (b ∷ ns) ks l t) = refl
+abbrev pub numbers : List Argument → List ℕ
+numbers xs = map (λ (a : Argument). a.number) xs
 
-three-fits : (a : Num) (k : ℕ) (x : Nums) → three_of (with_num a k x) ≡ three_then (cut (moved a)) k (two_of x)
-three-fits a k short = refl
-three-fits a k (nums [] ks l t) = refl
-three-fits a k (nums (b ∷ []) ks l t) = refl
-three-fits a k (nums (b ∷ c ∷ ns) ks l t) = refl
+abbrev pub places : List Argument → List ℕ
+places xs = map (λ (a : Argument). a.place) xs
 
-four-fits : (a : Num) (k : ℕ) (x : Nums) → four_of (with_num a k x) ≡ four_then (cut (moved a)) k (three_of x)
-four-fits a k short = refl
-four-fits a k (nums [] ks l t) = refl
-four-fits a k (nums (b ∷ []) ks l t) = refl
-four-fits a k (nums (b ∷ c ∷ []) ks l t) = refl
-four-fits a k (nums (b ∷ c ∷ d ∷ ns) ks l t) = refl
+-- the place behind arguments from a place on
+abbrev pub end_of : ℕ → List Argument → ℕ
+end_of i [] = i
+end_of i (a ∷ xs) = end_of a.next xs
 
-pub two_is : (s : List ℕ) (at : ℕ) → two_at s at ≡ first_then B.Short (λ a k i. two_then a k (one_at s i)) (one_at s at)
-unfolding two_at one_at
-two_is s at = chain two_of (λ a k x. two_then a k (one_of x)) two_fits s 1 at
+-- what x is, n integers that were read from s at a place: those of the arguments
+pub record ArgsAre (s : List ℕ) (n i : ℕ) (x : Nums) (xs : List Argument) : Type 0 where
+  pub all : List Num
+  pub are : x ≡ nums all (places xs) (end_of i xs) (drop (end_of i xs) s)
+  pub sizes : numbers xs ≡ map (λ (m : Num). cut (moved m)) all
+  pub count : length xs ≡ n
 
-pub three_is : (s : List ℕ) (at : ℕ) → three_at s at ≡ first_then C.Short (λ a k i. three_then a k (two_at s i)) (one_at s at)
-unfolding three_at two_at
-three_is s at = chain three_of (λ a k x. three_then a k (two_of x)) three-fits s 2 at
+abbrev pub ArgsNums : ℕ → List ℕ → ℕ → ℕ → Nums → Result (List Argument) Refusal → Type 0
+ArgsNums at s n i x (Err r) = (x ≡ short) × (r ≡ refusal 4 at)
+ArgsNums at s n i x (Ok xs) = ArgsAre s n i x xs
 
-pub four_is : (s : List ℕ) (at : ℕ) → four_at s at ≡ first_then D.Short (λ a k i. four_then a k (three_at s i)) (one_at s at)
-unfolding four_at three_at
-four_is s at = chain four_of (λ a k x. four_then a k (three_of x)) four-fits s 3 at
+module _ (at : ℕ) (s : List ℕ) where
+  pub args_nums : (n i : ℕ) → ArgsNums at s n i (ints s n i) (args_at n at s i)
+  unfolding integers args_at
+  args_nums zero i = record { all = []; are = refl; sizes = refl; count = refl }
+  args_nums (suc n) i =
+      by_first at s n i (λ a. and_then (args_at n at s a.next) (λ xs. Ok (a ∷ xs))) (ArgsNums at s (suc n) i) (refl, refl)
+      (λ a m g. more a m g (ints s n a.next) (args_at n at s a.next) (args_nums n a.next))
+    where
+      more : (a : Argument) (m : Num) → a.number ≡ cut (moved m) → (x : Nums) (q : Result (List Argument) Refusal) → ArgsNums at s n a.next x q
+          → ArgsNums at s (suc n) i (with_num m a.place x) (and_then q (λ xs. Ok (a ∷ xs)))
+      more a m g x (Err r) h = (ap (with_num m a.place) h.0, h.1)
+      more a m g x (Ok xs) h = record { all = m ∷ h.all; are = ap (with_num m a.place) h.are; sizes = rw (g, h.sizes); count = ap suc h.count }
 
-module _ (s : List ℕ) (at : ℕ) (q : One) (g : q ≡ one_at s at) where
-  pub two_none : q ≡ A.Short → B.Short ≡ two_at s at
-  two_none h = sym (two_is s at ∙ rw (← g, h))
+  pub args_none : (i : ℕ) → args_at 0 at s i ≡ Ok []
+  unfolding args_at
+  args_none i = refl
 
-  pub three_none : q ≡ A.Short → C.Short ≡ three_at s at
-  three_none h = sym (three_is s at ∙ rw (← g, h))
-
-  pub four_none : q ≡ A.Short → D.Short ≡ four_at s at
-  four_none h = sym (four_is s at ∙ rw (← g, h))
-
-  module _ (a k i : ℕ) (h : q ≡ A.Read a k i) where
-    pub two_short : (t : One) → t ≡ one_at s i → t ≡ A.Short → B.Short ≡ two_at s at
-    two_short t f e = sym (two_is s at ∙ rw (← g, h, ← f, e))
-
-    pub two_read : (t : One) (b j l : ℕ) → t ≡ one_at s i → t ≡ A.Read b j l → B.Read a b k j l ≡ two_at s at
-    two_read t b j l f e = sym (two_is s at ∙ rw (← g, h, ← f, e))
-
-    pub three_short : (t : Two) → t ≡ two_at s i → t ≡ B.Short → C.Short ≡ three_at s at
-    three_short t f e = sym (three_is s at ∙ rw (← g, h, ← f, e))
-
-    pub three-read : (t : Two) (b c j m l : ℕ) → t ≡ two_at s i → t ≡ B.Read b c j m l → C.Read a b c k j m l ≡ three_at s at
-    three-read t b c j m l f e = sym (three_is s at ∙ rw (← g, h, ← f, e))
-
-    pub four_short : (t : Three) → t ≡ three_at s i → t ≡ C.Short → D.Short ≡ four_at s at
-    four_short t f e = sym (four_is s at ∙ rw (← g, h, ← f, e))
-
-    pub four-read : (t : Three) (b c d j m n l : ℕ) → t ≡ three_at s i → t ≡ C.Read b c d j m n l → D.Read a b c d k j m n l ≡ four_at s at
-    four-read t b c d j m n l f e = sym (four_is s at ∙ rw (← g, h, ← f, e))
+  pub args_more : (n i : ℕ) → args_at (suc n) at s i ≡ and_then (due_at at s i) (λ a. and_then (args_at n at s a.next) (λ xs. Ok (a ∷ xs)))
+  unfolding args_at
+  args_more n i = refl
 
 -- ---- whether an integer is present
 
@@ -170,31 +162,24 @@ present_byte [] (suc i) = refl
 present_byte (a ∷ s) zero = refl
 present_byte (a ∷ s) (suc i) = present_byte s i
 
-pub present_is : (s : List ℕ) (at i b : ℕ) (t : Bool) → i ≡ run_end is_space s at → b ≡ get_or s i 0 → t ≡ is_digit b → (eqb b 45 || t) ≡ present_at s at
+pub present_is : (s : List ℕ) (i : ℕ) → present_at s i ≡ (eqb (get_or s (behind s i) 0) 45 || is_digit (get_or s (behind s i) 0))
 unfolding present_at
-present_is s at i b t p q r = rw (r, q, p, unspaced_at s at) (sym (present_byte s (behind s at)))
+present_is s i = rw (unspaced_at s i) (present_byte s (behind s i))
 
-abbrev perhaps_more : ℕ → ℕ → Nums → Perhaps
-perhaps_more a k short = P.Short
-perhaps_more a k (nums ns ks l t) = P.Read a k l
+module _ (at : ℕ) (s : List ℕ) (i : ℕ) where
+  pub perhaps_is : perhaps_at at s i ≡ (if present_at s i then and_then (due_at at s i) (λ a. Ok (Some a)) else Ok None)
+  unfolding perhaps_at perhaps_integer present_at
+  perhaps_is =
+      on (is_present (unspaced (drop i s)))
+      (λ e. rw e (by_one at s i (λ a. Ok (Some a)) (λ x r. perhaps_of at x ≡ r) refl (λ a m g. rw g)))
+      (λ e. rw e)
 
-perhaps_fits : (a : Num) (k : ℕ) (x : Nums) → perhaps_of (with_num a k x) ≡ perhaps_more (cut (moved a)) k x
-perhaps_fits a k short = refl
-perhaps_fits a k (nums ns ks l t) = refl
-
-pub perhaps_one : (s : List ℕ) (at : ℕ) → present_at s at ≡ true → perhaps_at s at ≡ first_then P.Short (λ a k i. P.Read a k i) (one_at s at)
-unfolding perhaps_at perhaps_integer present_at integers
-perhaps_one s at e = rw e (chain perhaps_of perhaps_more perhaps_fits s 0 at)
-
-pub perhaps_absent : (s : List ℕ) (at : ℕ) (t : Bool) → t ≡ present_at s at → t ≡ false → P.Absent at ≡ perhaps_at s at
-unfolding perhaps_at perhaps_integer present_at
-perhaps_absent s at t p e = rw (sym p ∙ e)
-
-module _ (s : List ℕ) (at : ℕ) (t : Bool) (q : One) (p : t ≡ present_at s at) (e : t ≡ true) (g : q ≡ one_at s at) where
-  pub perhaps_short : q ≡ A.Short → P.Short ≡ perhaps_at s at
-  perhaps_short h = sym (perhaps_one s at (sym p ∙ e) ∙ rw (← g, h))
-
-  pub perhaps_read : (a k i : ℕ) → q ≡ A.Read a k i → P.Read a k i ≡ perhaps_at s at
-  perhaps_read a k i h = sym (perhaps_one s at (sym p ∙ e) ∙ rw (← g, h))
-
-pub ruleset chains = (one_short, one_read, two_none, two_short, two_read, three_none, three_short, three-read, four_none, four_short, four-read, present_is, perhaps_absent, perhaps_short, perhaps_read, runs)
+  -- as of an argument that is due
+  pub by_perhaps : (P : Nums → Result (Option Argument) Refusal → Type 0)
+      → P short (Err (refusal 4 at))
+      → P (nums [] [] i (drop i s)) (Ok None)
+      → ((a : Argument) (m : Num) → a.number ≡ cut (moved m) → P (nums (m ∷ []) (a.place ∷ []) a.next (drop a.next s)) (Ok (Some a)))
+      → P (perhaps_integer i (drop i s)) (perhaps_at at s i)
+  unfolding perhaps_integer present_at
+  by_perhaps P none absent some =
+      rw perhaps_is (on (is_present (unspaced (drop i s))) (λ e. rw e (by_one at s i (λ a. Ok (Some a)) P none some)) (λ e. rw e absent))

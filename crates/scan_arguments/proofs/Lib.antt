@@ -1,4 +1,3 @@
 pub mod Chains
 pub mod Bounds
-pub mod Pairs
-pub mod Nums
+pub mod Many

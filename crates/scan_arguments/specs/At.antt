@@ -1,81 +1,63 @@
 -- The integers that are arguments, at a place of a list, as the scanners answer them (document 01, "Bytes, spaces, numbers",
 -- "Drawing"): the numbers, where each begins, and the place behind the last one. Each stands perhaps behind a spacer.
-use Rattle.std.specs.Prelude.{ℕ, List, [], ◌∷◌, map, length, drop, get_or}
-use Rattle.std.proofs.Math.Option.{Option, none, some}
-use Rattle.rules.specs.Bytes.{moved, Nums, short, nums, integers, many_integers, perhaps_integer}
+use Rattle.std.specs.Prelude.{ℕ, zero, suc, List, [], ◌∷◌, map, length, drop, get_or, Option, Some, None, Result, Ok, Err}
+use Rattle.std.proofs.Math.Option as Math
+use Rattle.rules.specs.Bytes.{moved, within, near, Nums, short, nums, integers, many_integers, perhaps_integer}
 use Rattle.rules.specs.Drawing.{pairwise, in_pairs}
 use Rattle.rules.specs.Scan.{up_to, outside}
+use Rattle.rules.specs.declared.Refusal.{Refusal}
+use Rattle.rules.specs.Answers.{refusal, asked, and_then}
 use Rattle.scan_integer.specs.At.{cut}
-use Rattle.scan_arguments.specs.declared.One.{One}
-use Rattle.scan_arguments.specs.declared.One.TheVariants as A
-use Rattle.scan_arguments.specs.declared.Two.{Two}
-use Rattle.scan_arguments.specs.declared.Two.TheVariants as B
-use Rattle.scan_arguments.specs.declared.Three.{Three}
-use Rattle.scan_arguments.specs.declared.Three.TheVariants as C
-use Rattle.scan_arguments.specs.declared.Four.{Four}
-use Rattle.scan_arguments.specs.declared.Four.TheVariants as D
-use Rattle.scan_arguments.specs.declared.Perhaps.{Perhaps}
-use Rattle.scan_arguments.specs.declared.Perhaps.TheVariants as P
-use Rattle.scan_arguments.specs.declared.Polygon.{Polygon}
-use Rattle.scan_arguments.specs.declared.Polygon.TheVariants as G
+use Rattle.scan_arguments.specs.declared.Argument.{Argument}
+use Rattle.scan_arguments.specs.declared.Sums.{Sums}
+use Rattle.scan_arguments.specs.declared.Pairs.{Pairs}
 
-abbrev pub one_of : Nums → One
-one_of short = A.Short
-one_of (nums [] ks l t) = A.Short
-one_of (nums (a ∷ ns) ks l t) = A.Read (cut (moved a)) (get_or ks 0 0) l
+abbrev pub one_of : Nums → Option Argument
+one_of short = None
+one_of (nums [] ks l t) = None
+one_of (nums (a ∷ ns) ks l t) = Some (record { number = cut (moved a); place = get_or ks 0 0; next = l })
 
-unfoldable pub one_at : List ℕ → ℕ → One
-one_at s at = one_of (integers 1 at (drop at s))
+unfoldable pub one_at : List ℕ → ℕ → Option Argument
+one_at s i = one_of (integers 1 i (drop i s))
 
-abbrev pub two_of : Nums → Two
-two_of short = B.Short
-two_of (nums [] ks l t) = B.Short
-two_of (nums (a ∷ []) ks l t) = B.Short
-two_of (nums (a ∷ b ∷ ns) ks l t) = B.Read (cut (moved a)) (cut (moved b)) (get_or ks 0 0) (get_or ks 1 0) l
+-- one that is due, of the command at a place: "argument missing or malformed" is 4
+abbrev pub due_of : ℕ → Option Argument → Result Argument Refusal
+due_of at None = Err (refusal 4 at)
+due_of at (Some a) = Ok a
 
-unfoldable pub two_at : List ℕ → ℕ → Two
-two_at s at = two_of (integers 2 at (drop at s))
+abbrev pub due_at : ℕ → List ℕ → ℕ → Result Argument Refusal
+due_at at s i = due_of at (one_at s i)
 
-abbrev pub three_of : Nums → Three
-three_of short = C.Short
-three_of (nums [] ks l t) = C.Short
-three_of (nums (a ∷ []) ks l t) = C.Short
-three_of (nums (a ∷ b ∷ []) ks l t) = C.Short
-three_of (nums (a ∷ b ∷ c ∷ ns) ks l t) = C.Read (cut (moved a)) (cut (moved b)) (cut (moved c)) (get_or ks 0 0) (get_or ks 1 0) (get_or ks 2 0) l
+-- n that are due, one behind the other
+unfoldable pub args_at : ℕ → ℕ → List ℕ → ℕ → Result (List Argument) Refusal
+args_at zero at s i = Ok []
+args_at (suc n) at s i = and_then (due_at at s i) (λ a. and_then (args_at n at s a.next) (λ xs. Ok (a ∷ xs)))
 
-unfoldable pub three_at : List ℕ → ℕ → Three
-three_at s at = three_of (integers 3 at (drop at s))
+-- an argument is within its limit, or within the general one
+abbrev pub within_of : ℕ → ℕ → Argument → Result Unit Refusal
+within_of lo hi a = asked (within lo hi a.number) 6 a.place
 
-abbrev pub four_of : Nums → Four
-four_of short = D.Short
-four_of (nums [] ks l t) = D.Short
-four_of (nums (a ∷ []) ks l t) = D.Short
-four_of (nums (a ∷ b ∷ []) ks l t) = D.Short
-four_of (nums (a ∷ b ∷ c ∷ []) ks l t) = D.Short
-four_of (nums (a ∷ b ∷ c ∷ d ∷ ns) ks l t) =
-    D.Read (cut (moved a)) (cut (moved b)) (cut (moved c)) (cut (moved d)) (get_or ks 0 0) (get_or ks 1 0) (get_or ks 2 0) (get_or ks 3 0) l
-
-unfoldable pub four_at : List ℕ → ℕ → Four
-four_at s at = four_of (integers 4 at (drop at s))
+abbrev pub near_of : Argument → Result Unit Refusal
+near_of a = asked (near a.number) 6 a.place
 
 -- a dummy, where an integer is present
-abbrev pub perhaps_of : Nums → Perhaps
-perhaps_of short = P.Short
-perhaps_of (nums [] ks l t) = P.Absent l
-perhaps_of (nums (a ∷ ns) ks l t) = P.Read (cut (moved a)) (get_or ks 0 0) l
+abbrev pub perhaps_of : ℕ → Nums → Result (Option Argument) Refusal
+perhaps_of at short = Err (refusal 4 at)
+perhaps_of at (nums [] ks l t) = Ok None
+perhaps_of at (nums (a ∷ ns) ks l t) = Ok (Some (record { number = cut (moved a); place = get_or ks 0 0; next = l }))
 
-unfoldable pub perhaps_at : List ℕ → ℕ → Perhaps
-perhaps_at s at = perhaps_of (perhaps_integer at (drop at s))
+unfoldable pub perhaps_at : ℕ → List ℕ → ℕ → Result (Option Argument) Refusal
+perhaps_at at s i = perhaps_of at (perhaps_integer i (drop i s))
 
 -- as many integers as there are, an even number: all within their limits, with their sums and how many pairs there are; or where
 -- the first one outside begins
-abbrev pub polygon_with : List ℕ → ℕ → Option ℕ → Polygon
-polygon_with ns l none = G.Read (pairwise ns).dh (pairwise ns).dv (pairwise ns).terms l
-polygon_with ns l (some k) = G.Over k l
+abbrev pub sums_of : List ℕ → Math.Option ℕ → Result Sums Refusal
+sums_of ns Math.none = Ok (record { dh = (pairwise ns).dh; dv = (pairwise ns).dv; terms = (pairwise ns).terms })
+sums_of ns (Math.some k) = Err (refusal 6 k)
 
-abbrev pub polygon_of : Nums → Polygon
-polygon_of short = G.Short
-polygon_of (nums ns ks l t) = polygon_with (map moved ns) l (outside (up_to 64 (map moved ns)) ks)
+abbrev pub pairs_of : ℕ → Nums → Result Pairs Refusal
+pairs_of at short = Err (refusal 4 at)
+pairs_of at (nums ns ks l t) = Ok (record { sums = sums_of (map moved ns) (outside (up_to 64 (map moved ns)) ks); next = l })
 
-unfoldable pub polygon_at : List ℕ → ℕ → Polygon
-polygon_at s at = polygon_of (in_pairs (many_integers (length (drop at s)) at (drop at s)))
+unfoldable pub pairs_at : ℕ → List ℕ → ℕ → Result Pairs Refusal
+pairs_at at s i = pairs_of at (in_pairs (many_integers (length (drop i s)) i (drop i s)))

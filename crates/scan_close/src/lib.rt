@@ -1,84 +1,81 @@
-// What closes a command: an argument is within its limit, the line breaks behind the last one (document 01, "Refusals": 5 and 6), and no
-// byte of its name is barred (2026-06: 16).
+// What closes a command: what is due stands there, an argument is within its limit, the line breaks behind the last one (document 01,
+// "Refusals": 4 to 6), and no byte of its name is barred (2026-06: 16).
 #![tactic(auto)]
 
 ghost use Rattle.std.specs.Prelude.{◌≡◌, ◌<◌, length};
-ghost use Rattle.scan_close.specs.Closed.{within_or, clear_or, ended_at, argument_at};
+ghost use Rattle.scan_close.specs.Closed.{due_or, within_or, clear_or, ended_at, argument_at};
 
-use scan_arguments::One;
-use scan_command::Command;
+use rules::Refusal;
+use scan_arguments::Argument;
 
-// One integer: within its limit, or refused.
-#[derive(Clone, Copy)]
-pub enum Argument {
-    Good { number: u32, next: usize },
-    Wrong { refusal: u32, place: usize },
+// What is due of the command at a place stands there.
+pub fn due(there: bool, at: usize) -> Result<(), Refusal>
+    ensures { result ≡ due_or there at }
+{
+    if there {
+        Ok(())
+    } else {
+        Err(Refusal {
+            number: 4,
+            offset: at,
+        })
+    }
 }
 
-// The answer c, where an argument that begins at a place is within its limit.
-pub fn within(inside: bool, place: usize, c: Command) -> Command
-    ensures { result ≡ within_or inside place c }
+// What begins at a place is within its limit.
+pub fn within(inside: bool, place: usize) -> Result<(), Refusal>
+    ensures { result ≡ within_or inside place }
 {
     if inside {
-        c
+        Ok(())
     } else {
-        Command::Refused { number: 6, place }
+        Err(Refusal {
+            number: 6,
+            offset: place,
+        })
     }
 }
 
-// The answer c of the command at a place, where no byte of its name is barred.
-pub fn cleared(clear: bool, at: usize, c: Command) -> Command
-    ensures { result ≡ clear_or clear at c }
+// No byte of the name of the command at a place is barred.
+pub fn cleared(clear: bool, at: usize) -> Result<(), Refusal>
+    ensures { result ≡ clear_or clear at }
 {
     if clear {
-        c
+        Ok(())
     } else {
-        Command::Refused {
+        Err(Refusal {
             number: 16,
-            place: at,
-        }
+            offset: at,
+        })
     }
 }
 
-// The answer c of the command at a place, where the line breaks behind its last argument.
-pub fn ending(s: &[u8], at: usize, next: usize, c: Command) -> Command
-    ensures { result ≡ ended_at s.now at next c }
+// The line breaks behind the last argument of the command at a place.
+pub fn ending(s: &[u8], at: usize, next: usize) -> Result<(), Refusal>
+    ensures { result ≡ ended_at s.now at next }
 {
     if scan_lex::breaks(s, next) {
-        c
+        Ok(())
     } else {
-        Command::Refused {
+        Err(Refusal {
             number: 5,
-            place: at,
-        }
+            offset: at,
+        })
     }
 }
 
 // The one integer behind the letter at a place, from lo to hi.
-pub fn argument_at(s: &[u8], at: usize, lo: u32, hi: u32) -> Argument
+pub fn argument_at(s: &[u8], at: usize, lo: u32, hi: u32) -> Result<Argument, Refusal>
     requires { at < length s.now }
     ensures { result ≡ argument_at lo hi s.now at }
 {
-    match scan_arguments::one_at(s, at + 1) {
-        One::Short => Argument::Wrong {
-            refusal: 4,
-            place: at,
-        },
-        One::Read { a, pa, next } => {
-            if scan_integer::is_within(lo, hi, a) {
-                Argument::Good { number: a, next }
-            } else {
-                Argument::Wrong {
-                    refusal: 6,
-                    place: pa,
-                }
-            }
-        }
-    }
+    let argument = scan_arguments::due_at(s, at, at + 1)?;
+    argument.within(lo, hi)?;
+    Ok(argument)
 }
 
 // The same within the general limit.
-pub fn near_at(s: &[u8], at: usize) -> Argument
+pub fn near_at(s: &[u8], at: usize) -> Result<Argument, Refusal>
     requires { at < length s.now }
     ensures { result ≡ argument_at 1 199999999 s.now at }
 {

@@ -1,250 +1,215 @@
--- The components of a colour, and the commands `m` and `DF`: what is answered is what the definitions say, then laws in the form in which
--- `search` applies them at a need.
+-- The components of a colour, and the commands `m` and `DF`: what is answered is what the definitions say.
+use Rattle.std.specs.Prelude.{Some, Result, Ok, Err}
+use Rattle.std.proofs.lemmas.Option.{slice_get_past, slice_get-get_or}
 use Prim.Native.Nat.{ℕ, ◌+◌, ◌-◌, ◌≤◌, ◌<◌}
 use native.Mathlib.Omega.{arith}
-use mathlib.Core.Bool.{Bool, true, false}
-use mathlib.Core.List.{List, [], ◌∷◌, map, append-nil}
-use mathlib.Core.Option.{Option, none, some}
-use mathlib.Core.Path.{◌≡◌, refl, sym, ap, ◌∙◌}
-use borrow.Author.Rules.{rules}
-use borrow.Author.Tests.{eqb-true}
-use lib.Dec.{eqb}
+use native.Mathlib.Nat.{add-zero}
+use mathlib.Core.Bool.{Bool, true}
+use mathlib.Core.List.{List, [], ◌∷◌, map}
+use mathlib.Core.Option as Math
+use mathlib.Core.Path.{◌≡◌, refl}
+use borrow.Author.Tests.{eqb-true, ltb-true, ltb-false}
+use lib.Dec.{eqb, ltb}
 use lib.ListN.{length, drop, get_or, length-map, drop_of_length-le}
-use lib.Seq.{drop-drop}
-use Rattle.rules.specs.Bytes.{is, is_space, origin, moved, Nums, short, nums, integers}
-use Rattle.rules.specs.Act.{Scheme, cmy, default, gray, cmyk, rgb, colour_fill, colour, draw}
-use Rattle.rules.specs.Letters.{with_all, scheme_of, components, in_scheme, coloured}
-use Rattle.rules.specs.Drawing.{line_ends, closed}
+use Rattle.rules.specs.declared.Refusal.{Refusal}
+use Rattle.rules.specs.Answers.{refusal, and_then}
+use Rattle.rules.specs.Bytes.{is, is_space, spacer, origin, moved, Num, Nums, short, integers}
+use Rattle.rules.specs.Act.{Scheme, cmy, default, gray, cmyk, rgb, Act, colour_fill, colour, draw}
+use Rattle.rules.specs.Letters.{Draft, fault, with_all, scheme_of, components, in_scheme, coloured}
+use Rattle.rules.specs.Drawing.{closed}
+use Rattle.rules.specs.State.{padded}
 use Rattle.rules.specs.Record.{scheme_letter}
-use Rattle.rules.specs.Scan.{is_component, outside}
+use Rattle.rules.specs.Scan.{is_component, outside, letter}
 use Rattle.laws.proofs.Cases.{on, if_on}
-use Rattle.laws_scan.proofs.Bounds.{NumsIn, integers_in}
 use Rattle.laws_scan.proofs.Walk.{cons_at}
-use Rattle.scan_command.specs.View.{part, letter_at}
+use Rattle.scan_command.specs.View.{draft_of, letter_at}
 use Rattle.scan_command.specs.declared.Command.{Command}
 use Rattle.scan_command.specs.declared.Command.TheVariants as K
-use Rattle.scan_letters.specs.Selected.{parts_in, parts_by, parts_of}
-use Rattle.scan_letters.specs.declared.Parts.{Parts}
-use Rattle.scan_letters.specs.declared.Parts.TheVariants as P
-use Rattle.scan_lex.specs.At.{run_end, breaks_at}
+use Rattle.scan_letters.specs.Selected.{parts_in, parts_by}
+use Rattle.scan_lex.specs.At.{run_end}
 use Rattle.scan_integer.specs.At.{cut}
-use Rattle.scan_arguments.specs.At.{one_at, three_at, four_at}
-use Rattle.scan_arguments.specs.declared.One.{One}
-use Rattle.scan_arguments.specs.declared.One.TheVariants as A
-use Rattle.scan_arguments.specs.declared.Three.{Three}
-use Rattle.scan_arguments.specs.declared.Three.TheVariants as C
-use Rattle.scan_arguments.specs.declared.Four.{Four}
-use Rattle.scan_arguments.specs.declared.Four.TheVariants as D
-use Rattle.scan_arguments.proofs.Chains.{ints}
-use Rattle.scan_arguments.proofs.Nums.{OneNums, ThreeNums, FourNums, one_nums, three-nums, four-nums, rest_at}
-use Rattle.scan_close.specs.Closed.{ended_at}
-use Rattle.scan_colours.specs.Parts.{components_with, components_of, components_in, components_from, components_at, component_then, no_components, one_by, one_component, three_by, three_components, four_by, four_components, fill_by, fill_set, colour_by}
+use Rattle.scan_arguments.specs.declared.Argument.{Argument}
+use Rattle.scan_lex.proofs.Runs.{unspaced_at}
+use Rattle.scan_close.proofs.Places.{Back, answered, one_due, three_due, four_due, within-cut, within_uncut}
+use Rattle.scan_colours.specs.Parts.{count_in, known, components_from, components_at, parts_of, with_parts, colour_of, fill_of, fill_set}
 use Rattle.scan_colours.specs.declared.Components.{Components}
-use Rattle.scan_colours.specs.declared.Components.TheVariants.{Fault, Over, Read}
-use Rattle.scan_colours.proofs.Placed.{placed_with, placed_of, colour-placed}
-use Rattle.scan_colours.proofs.Limits.{judged_by, judge-cut, outside_zero, outside-placed, Even, integers_even}
+use Rattle.scan_colours.proofs.Drafts.{draft_is, closed_is}
 
--- ---- components of a scheme that has one, three or four
+-- ---- components of a scheme
 
-module _ (c : Scheme) (s : List ℕ) (j : ℕ) where
-  abbrev parts_read : ℕ → List ℕ → Components
-  parts_read l ns = Read (scheme_letter c) (part 0 ns) (part 1 ns) (part 2 ns) (part 3 ns) l
+-- all components, or the refusal of one that begins at a place
+abbrev limited : {R : Type 0} → Result R Refusal → Math.Option ℕ → Result R Refusal
+limited r Math.none = r
+limited r (Math.some k) = Err (refusal 6 k)
 
-  judged : (l : ℕ) (ns ks : List ℕ) → length ns ≡ length ks
-      → judged_by is_component (λ k. Over k l) (parts_read l (map cut ns)) (map cut ns) ks ≡ components_with c ns l (outside (map is_component ns) ks)
-  judged l ns ks e = rw outside_zero (judge-cut (components_with c ns l) 0 (parts_read l (map cut ns)) origin (origin + 65536) (omega arith) ns ks e (λ p. ap (parts_read l) p))
+limited_then : {A B : Type 0} (f : A → B) (v : A) (o : Math.Option ℕ) → and_then (limited (Ok v) o) (λ x. Ok (f x)) ≡ limited (Ok (f v)) o
+limited_then f v Math.none = refl
+limited_then f v (Math.some k) = refl
 
-  one_are : components c ≡ 1 → one_component (scheme_letter c) s j ≡ components_of c (integers (components c) j (drop j s))
-  unfolding one_component
-  one_are e = rw e (go (one_at s j) (one_nums s j))
-    where
-      go : (q : One) → OneNums s (ints s 1 j) q → one_by (scheme_letter c) q ≡ components_of c (ints s 1 j)
-      go A.Short h = rw h
-      go (A.Read x k l) h = rw (h.are, h.size1) (judged l (moved h.first ∷ []) (k ∷ []) refl)
+answered_then : {A : Type 0} (f : A → Command) (v : A) (o : Math.Option ℕ) → answered (Ok (f v)) o ≡ and_then (limited (Ok v) o) (λ x. Ok (f x))
+answered_then f v Math.none = refl
+answered_then f v (Math.some k) = refl
 
-  three_are : components c ≡ 3 → three_components (scheme_letter c) s j ≡ components_of c (integers (components c) j (drop j s))
-  unfolding three_components
-  three_are e = rw e (go (three_at s j) (three-nums s j))
-    where
-      go : (q : Three) → ThreeNums s (ints s 3 j) q → three_by (scheme_letter c) q ≡ components_of c (ints s 3 j)
-      go C.Short h = rw h
-      go (C.Read x y z k m n l) h =
-          rw (h.are, h.size1, h.size2, h.size3) (judged l (moved h.first ∷ moved h.second ∷ moved h.third ∷ []) (k ∷ m ∷ n ∷ []) refl)
+-- components, within their limits, are ps; bs says whether each is, and ks are their places
+record Judged (all : List Argument) (ps : List ℕ) (bs : List Bool) (ks : List ℕ) : Type 0 where
+  pub are : parts_of all ≡ limited (Ok ps) (outside bs ks)
 
-  four_are : components c ≡ 4 → four_components (scheme_letter c) s j ≡ components_of c (integers (components c) j (drop j s))
-  unfolding four_components
-  four_are e = rw e (go (four_at s j) (four-nums s j))
-    where
-      go : (q : Four) → FourNums s (ints s 4 j) q → four_by (scheme_letter c) q ≡ components_of c (ints s 4 j)
-      go D.Short h = rw h
-      go (D.Read w x y z i k m n l) h =
-          rw (h.are, h.size1, h.size2, h.size3, h.size4)
-          (judged l (moved h.first ∷ moved h.second ∷ moved h.third ∷ moved h.fourth ∷ []) (i ∷ k ∷ m ∷ n ∷ []) refl)
+-- one component more, before others
+more : {a : Argument} {all : List Argument} {ps : List ℕ} {bs : List Bool} {ks : List ℕ} (m : ℕ) → a.number ≡ cut m → Judged all ps bs ks
+    → Judged (a ∷ all) ((m - origin) ∷ ps) (is_component m ∷ bs) (a.place ∷ ks)
+more {a} {all} {ps} {bs} {ks} m g h = record {
+  are =
+      rw (g, within-cut origin (origin + 65536) m (omega arith), h.are)
+      (on (is_component m)
+      (λ w. rw (w, within_uncut origin (origin + 65536) m (omega arith) w) (limited_then (λ (qs : List ℕ). (m - origin) ∷ qs) ps (outside bs ks)))
+      (λ w. rw w));
+}
 
--- ---- by what the scheme's letter b selects, its components from j on
+-- y is the integers, read from s, that components of a scheme are
+record ComponentsAre (at : ℕ) (s : List ℕ) (c : Scheme) (y : Nums) (all : Components) : Type 0 where
+  pub numbers : List Num
+  pub places : List ℕ
+  pub back : Back at y numbers places all.next (drop all.next s)
+  pub count : length numbers ≤ length places
+  pub scheme : all.scheme ≡ scheme_letter c
+  pub parts : Judged all.parts (padded 4 (map moved numbers)) (map is_component (map moved numbers)) places
 
-abbrev pub by_parts : ℕ → List ℕ → ℕ → Parts → Components
-by_parts b s j P.Zero = no_components b j
-by_parts b s j P.One = one_component b s j
-by_parts b s j P.Three = three_components b s j
-by_parts b s j P.Four = four_components b s j
-by_parts b s j P.Unknown = Fault 3
+abbrev ComponentsNums : ℕ → List ℕ → Scheme → Nums → Result Components Refusal → Type 0
+ComponentsNums at s c y (Err r) = (y ≡ short) × (r ≡ refusal 4 at)
+ComponentsNums at s c y (Ok all) = ComponentsAre at s c y all
 
-module _ (b : ℕ) (s : List ℕ) (j : ℕ) where
-  -- what is answered for a scheme is what the definitions say of it
-  abbrev Said : Option Scheme → Type 0
-  Said o = by_parts b s j (parts_by o) ≡ components_in j (drop j s) o
+-- they are due from k bytes behind the command's first on
+module _ (at : ℕ) (s : List ℕ) (k : ℕ) where
+  abbrev unused : ℕ → Argument
+  unused n = record { number = origin; place = n; next = n }
 
-  of_letter : (c : Scheme) → by_parts (scheme_letter c) s j (parts_in c) ≡ components_of c (integers (components c) j (drop j s)) → eqb b (scheme_letter c) ≡ true → Said (some c)
-  of_letter c p e = rw (eqb-true b (scheme_letter c) e) p
+  abbrev read : ℕ → List Argument → ℕ → Result Components Refusal
+  read scheme all n = Ok (record { scheme = scheme; parts = all; next = n })
 
-  schemes_are : Said (scheme_of b)
+  three_are : (c : Scheme) → ComponentsNums at s c (integers 3 k (drop (at + k) s)) (components_from at s (at + k) (scheme_letter c) 3)
+  three_are c =
+      three_due at s k (ComponentsNums at s c) (refl, refl) (λ a b d. read (scheme_letter c) (a ∷ b ∷ d ∷ unused d.next ∷ []) d.next)
+      (λ a b d m n o y e f g h. record {
+        numbers = m ∷ n ∷ o ∷ [];
+        places = a.place ∷ b.place ∷ d.place ∷ [];
+        back = h;
+        count = omega arith;
+        scheme = refl;
+        parts = more (moved m) e (more (moved n) f (more (moved o) g (record { are = refl })));
+      })
+
+  components_are : (c : Scheme) → ComponentsNums at s c (integers (components c) k (drop (at + k) s)) (components_from at s (at + k) (scheme_letter c) (components c))
   unfolding integers
-  schemes_are =
-      if_on Said (is "c" b) (some cmy) _ (of_letter cmy (three_are cmy s j refl)) (λ e.
-      if_on Said (is "d" b) (some default) _ (of_letter default refl) (λ e.
-      if_on Said (is "g" b) (some gray) _ (of_letter gray (one_are gray s j refl)) (λ e.
-      if_on Said (is "k" b) (some cmyk) _ (of_letter cmyk (four_are cmyk s j refl)) (λ e.
-      if_on Said (is "r" b) (some rgb) none (of_letter rgb (three_are rgb s j refl)) (λ e. refl)))))
+  components_are cmy = three_are cmy
+  components_are default = record {
+    numbers = [];
+    places = [];
+    back = record { places = []; end = k; are = refl; from = refl; to = refl };
+    count = omega arith;
+    scheme = refl;
+    parts = record { are = refl };
+  }
+  components_are gray =
+      one_due at s k (ComponentsNums at s gray) (refl, refl) (λ a. read 103 (a ∷ unused a.next ∷ unused a.next ∷ unused a.next ∷ []) a.next)
+      (λ a m y e h. record {
+        numbers = m ∷ [];
+        places = a.place ∷ [];
+        back = h;
+        count = omega arith;
+        scheme = refl;
+        parts = more (moved m) e (record { are = refl });
+      })
+  components_are cmyk =
+      four_due at s k (ComponentsNums at s cmyk) (refl, refl) (λ a b c d. read 107 (a ∷ b ∷ c ∷ d ∷ []) d.next)
+      (λ a b c d m n o p y e f g i h. record {
+        numbers = m ∷ n ∷ o ∷ p ∷ [];
+        places = a.place ∷ b.place ∷ c.place ∷ d.place ∷ [];
+        back = h;
+        count = omega arith;
+        scheme = refl;
+        parts = more (moved m) e (more (moved n) f (more (moved o) g (more (moved p) i (record { are = refl }))));
+      })
+  components_are rgb = three_are rgb
 
--- ---- the commands with components
+-- ---- by the scheme's letter: a command with components, as it is viewed, and what is done with what was read
 
-module _ (at : ℕ) (c : Scheme) where
-  colour-nums : (x : Nums) → Even x → placed_of at (with_all (colour c) x) ≡ colour_by at (components_of c x)
-  colour-nums short h = refl
-  colour-nums (nums ns ks l t) h =
-      let ms : List ℕ = map moved ns in
-      rw (append-nil (map is_component ms), outside-placed at (map is_component ms) ks (omega (arith, length-map ms is_component, length-map ns moved))) (go (outside (map is_component ms) ks))
-    where
-      go : (o : Option ℕ) → placed_with at l (colour c (map moved ns)) o ≡ colour_by at (components_with c (map moved ns) l o)
-      go none = refl
-      go (some k) = refl
+module _ (at : ℕ) (s : List ℕ) (f : Scheme → List ℕ → Act) (view : Draft → Result Command Refusal) (rest : Components → Result Command Refusal) (wrong : (n : ℕ) → view (fault n) ≡ Err (refusal n at)) (right : (c : Scheme) (y : Nums) (r : Result Components Refusal) → ComponentsNums at s c y r → view (with_all (f c) y) ≡ and_then r rest) where
+  module _ (b k : ℕ) where
+    abbrev Said : Math.Option Scheme → Type 0
+    Said o = view (in_scheme f k (drop (at + k) s) o) ≡ and_then (and_then (known at (count_in (parts_by o))) (λ n. components_from at s (at + k) b n)) rest
 
-  fill-nums : (s : List ℕ) (j : ℕ) (x : Nums) → Even x → NumsIn j (drop j s) x → placed_of at (closed (with_all (draw (colour_fill c)) x)) ≡ fill_by s at (components_of c x)
-  unfolding breaks_at
-  fill-nums s j short h g = refl
-  fill-nums s j (nums ns ks l t) h g =
-      let ms : List ℕ = map moved ns in
-      let u : t ≡ drop l s = rest_at s j (drop j s) l t refl g.0 in
-      on (line_ends (drop l s))
-      (λ e. rw (u, e, append-nil (map is_component ms), outside-placed at (map is_component ms) ks (omega (arith, length-map ms is_component, length-map ns moved))) (yes e (outside (map is_component ms) ks)))
-      (λ e. rw (u, e) (no e (outside (map is_component ms) ks)))
-    where
-      yes : line_ends (drop l s) ≡ true → (o : Option ℕ) → placed_with at l (draw (colour_fill c) (map moved ns)) o ≡ fill_by s at (components_with c (map moved ns) l o)
-      yes e none = rw e
-      yes e (some k) = rw e
+    counted : (c : Scheme) → count_in (parts_in c) ≡ Some (components c)
+    counted cmy = refl
+    counted default = refl
+    counted gray = refl
+    counted cmyk = refl
+    counted rgb = refl
 
-      no : line_ends (drop l s) ≡ false → (o : Option ℕ) → K.Refused 5 at ≡ fill_by s at (components_with c (map moved ns) l o)
-      no e none = rw e
-      no e (some k) = rw e
+    said : (c : Scheme) → eqb b (scheme_letter c) ≡ true → Said (Math.some c)
+    said c e =
+        rw (eqb-true b (scheme_letter c) e, counted c)
+        (right c (integers (components c) k (drop (at + k) s)) (components_from at s (at + k) (scheme_letter c) (components c)) (components_are at s k c))
 
-colour_from : (at k : ℕ) (r : List ℕ) → placed_of at (coloured colour k r) ≡ colour_by at (components_from k r)
-colour_from at k [] = refl
-colour_from at k (b ∷ r) = go (scheme_of b)
-  where
-    go : (o : Option Scheme) → placed_of at (in_scheme colour (k + 1) r o) ≡ colour_by at (components_in (k + 1) r o)
-    go none = refl
-    go (some c) = colour-nums at c (integers (components c) (k + 1) r) (integers_even (components c) (k + 1) r)
+    schemes_are : Said (scheme_of b)
+    schemes_are =
+        if_on Said (is "c" b) (Math.some cmy) _ (said cmy) (λ e.
+        if_on Said (is "d" b) (Math.some default) _ (said default) (λ e.
+        if_on Said (is "g" b) (Math.some gray) _ (said gray) (λ e.
+        if_on Said (is "k" b) (Math.some cmyk) _ (said cmyk) (λ e.
+        if_on Said (is "r" b) (Math.some rgb) Math.none (said rgb) (λ e. wrong 3)))))
 
-fill_from : (s : List ℕ) (at k : ℕ) (r : List ℕ) → r ≡ drop k s → placed_of at (closed (coloured (λ c. draw (colour_fill c)) k r)) ≡ fill_by s at (components_from k r)
-fill_from s at k [] e = refl
-fill_from s at k (b ∷ r) e = go (scheme_of b)
-  where
-    u : r ≡ drop (k + 1) s
-    u = ap (drop 1) e ∙ drop-drop 1 k s
+  -- the scheme's letter is due at i, k bytes behind the command's first
+  coloured_is : (k i : ℕ) → at + k ≡ i → view (coloured f k (drop i s)) ≡ and_then (components_at at s i) rest
+  coloured_is k i g =
+      let j : at + (k + 1) ≡ i + 1 = omega arith in
+      on (ltb i (length s))
+      (λ e.
+      let h : i < length s = ltb-true i (length s) e in
+      rw (cons_at s i h, slice_get-get_or s i 0 h, ← j) (schemes_are (get_or s i 0) (k + 1)))
+      (λ e.
+      let h : length s ≤ i = ltb-false i (length s) e in
+      rw (drop_of_length-le s h, slice_get_past s i h) (wrong 3))
 
-    go : (o : Option Scheme) → placed_of at (closed (in_scheme (λ c. draw (colour_fill c)) (k + 1) r o)) ≡ fill_by s at (components_in (k + 1) r o)
-    go none = refl
-    go (some c) =
-        fill-nums at c s (k + 1) (integers (components c) (k + 1) r) (integers_even (components c) (k + 1) r)
-        (rw (← u) (integers_in (components c) (k + 1) r))
+-- ---- the commands
 
-pub fill_is : (s : List ℕ) (at i : ℕ) → placed_of at (closed (coloured (λ c. draw (colour_fill c)) i (drop i s))) ≡ fill_set s at i
-unfolding fill_set components_at
-fill_is s at i = fill_from s at i (drop i s) refl
+module _ (at : ℕ) (s : List ℕ) where
+  module _ (f : Scheme → List ℕ → Act) (v : Scheme → ℕ → List ℕ → Command) (c : Scheme) (y : Nums) (all : Components) (h : ComponentsAre at s c y all) where
+    abbrev given : List ℕ
+    given = map moved h.numbers
 
-module _ (s : List ℕ) (at i : ℕ) (p : i ≡ run_end is_space s (at + 1)) where
-  colour_is : letter_at 109 s at ≡ colour_by at (components_at s i)
-  unfolding components_at
-  colour_is = colour-placed s at i p ∙ colour_from at i (drop i s)
+    -- components and what is said of them
+    judged_parts : answered (Ok (v c all.next (padded 4 given))) (outside (map is_component given) h.places) ≡ and_then (parts_of all.parts) (λ ps. Ok (v c all.next ps))
+    judged_parts = rw h.parts.are (answered_then (v c all.next) (padded 4 given) (outside (map is_component given) h.places))
 
-  module _ (q : Components) (g : q ≡ components_at s i) where
-    pub colour-fault : (n : ℕ) → q ≡ Fault n → K.Refused n at ≡ letter_at 109 s at
-    colour-fault n h = sym (colour_is ∙ rw (← g, h))
+    fewer : length (map is_component given) ≤ length h.places
+    fewer = omega (arith, length-map given is_component, length-map h.numbers moved, h.count)
 
-    pub colour_over : (k n : ℕ) → q ≡ Over k n → K.Refused 6 k ≡ letter_at 109 s at
-    colour_over k n h = sym (colour_is ∙ rw (← g, h))
+  colour_right : (c : Scheme) (y : Nums) (r : Result Components Refusal) → ComponentsNums at s c y r → draft_of at (with_all (colour c) y) ≡ and_then r colour_of
+  colour_right c y (Err r) h = rw (h.0, h.1, add-zero)
+  colour_right c y (Ok all) h =
+      let v : Scheme → ℕ → List ℕ → Command = λ (k : Scheme). λ (e : ℕ). λ (ps : List ℕ). with_parts (λ p q r t. K.Colour (scheme_letter k) p q r t e) ps in
+      rw (h.back.are, h.scheme)
+      (draft_is at (colour c (map moved h.numbers)) true refl h.back.places h.places 0 h.back.end all.next h.back.from (fewer colour v c y all h) h.back.to
+      (and_then (parts_of all.parts) (λ ps. Ok (v c all.next ps))) (judged_parts colour v c y all h) (drop all.next s))
 
-    pub colour-read : (scheme x y z w n : ℕ) → q ≡ Read scheme x y z w n → K.Colour scheme x y z w n ≡ letter_at 109 s at
-    colour-read scheme x y z w n h = sym (colour_is ∙ rw (← g, h))
+  pub colour_is : letter_at 109 s at ≡ and_then (components_at at s (run_end is_space s (at + 1))) colour_of
+  unfolding letter_at letter run_end
+  colour_is =
+      let k : ℕ = 1 + spacer (drop (at + 1) s) in
+      let i : ℕ = at + 1 + spacer (drop (at + 1) s) in
+      rw (unspaced_at s (at + 1)) (coloured_is at s colour (λ d. draft_of at d) colour_of (λ n. rw add-zero) colour_right k i (omega arith))
 
--- ---- the readers of components
+  fill_right : (c : Scheme) (y : Nums) (r : Result Components Refusal) → ComponentsNums at s c y r
+      → draft_of at (closed (with_all (draw (colour_fill c)) y)) ≡ and_then r (fill_of at s)
+  fill_right c y (Err r) h = rw (h.0, h.1, add-zero)
+  fill_right c y (Ok all) h =
+      let v : Scheme → ℕ → List ℕ → Command = λ (k : Scheme). λ (e : ℕ). λ (ps : List ℕ). with_parts (λ p q r t. K.Fill (scheme_letter k) p q r t e) ps in
+      let f : Scheme → List ℕ → Act = λ (k : Scheme). λ (ns : List ℕ). draw (colour_fill k) ns in
+      rw (h.back.are, h.scheme)
+      (closed_is at (draw (colour_fill c) (map moved h.numbers)) true refl h.back.places h.places 0 h.back.end all.next h.back.from (fewer f v c y all h) h.back.to
+      (and_then (parts_of all.parts) (λ ps. Ok (v c all.next ps))) (judged_parts f v c y all h) s)
 
-module _ (n k l : ℕ) (x : Components) (t : Bool) (e : t ≡ is_component n) where
-  pub component_in : t ≡ true → x ≡ component_then n k l x
-  component_in f = rw (sym e ∙ f)
-
-  pub component_out : t ≡ false → Over k l ≡ component_then n k l x
-  component_out f = rw (sym e ∙ f)
-
-module _ (scheme : ℕ) (s : List ℕ) (at : ℕ) where
-  module _ (q : One) (g : q ≡ one_at s at) where
-    pub one_short : q ≡ A.Short → Fault 4 ≡ one_component scheme s at
-    unfolding one_component
-    one_short h = rw (← g, h)
-
-    pub one_read : (a i l : ℕ) → q ≡ A.Read a i l → (x : ℕ) → x ≡ a - origin → (r : Components) → r ≡ component_then a i l (Read scheme x 0 0 0 l) → r ≡ one_component scheme s at
-    unfolding one_component
-    one_read a i l h x e r f = rw (f, e, ← g, h)
-
-  module _ (q : Three) (g : q ≡ three_at s at) where
-    pub three_short : q ≡ C.Short → Fault 4 ≡ three_components scheme s at
-    unfolding three_components
-    three_short h = rw (← g, h)
-
-    pub three-read : (a b c i j k l : ℕ) → q ≡ C.Read a b c i j k l → (x y z : ℕ) → x ≡ a - origin → y ≡ b - origin → z ≡ c - origin
-        → (r u v : Components) → u ≡ component_then c k l (Read scheme x y z 0 l) → v ≡ component_then b j l u → r ≡ component_then a i l v → r ≡ three_components scheme s at
-    unfolding three_components
-    three-read a b c i j k l h x y z e f d r u v m n o = rw (o, n, m, e, f, d, ← g, h)
-
-  module _ (q : Four) (g : q ≡ four_at s at) where
-    pub four_short : q ≡ D.Short → Fault 4 ≡ four_components scheme s at
-    unfolding four_components
-    four_short h = rw (← g, h)
-
-    pub four-read : (a b c d i j k m l : ℕ) → q ≡ D.Read a b c d i j k m l → (x y z w : ℕ) → x ≡ a - origin → y ≡ b - origin → z ≡ c - origin → w ≡ d - origin
-        → (r u v t : Components) → u ≡ component_then d m l (Read scheme x y z w l) → v ≡ component_then c k l u → t ≡ component_then b j l v → r ≡ component_then a i l t
-        → r ≡ four_components scheme s at
-    unfolding four_components
-    four-read a b c d i j k m l h x y z w e f o p r u v t n1 n2 n3 n4 = rw (n4, n3, n2, n1, e, f, o, p, ← g, h)
-
-module _ (s : List ℕ) (at : ℕ) where
-  pub scheme_none : length s ≤ at → Fault 3 ≡ components_at s at
-  unfolding components_at
-  scheme_none h = rw (drop_of_length-le s h)
-
-  module _ (h : at < length s) where
-    scheme_is : components_at s at ≡ by_parts (get_or s at 0) s (at + 1) (parts_of (get_or s at 0))
-    unfolding components_at
-    scheme_is = rw (cons_at s at h) (sym (schemes_are (get_or s at 0) s (at + 1)))
-
-    pub by_parts_lem : (q d : Parts) (r : Components) → q ≡ parts_of (get_or s at 0) → q ≡ d → r ≡ by_parts (get_or s at 0) s (at + 1) d → r ≡ components_at s at
-    by_parts_lem q d r g e f = f ∙ sym (scheme_is ∙ rw (sym g ∙ e))
-
--- ---- `DF`
-
-module _ (s : List ℕ) (at i : ℕ) where
-  module _ (q : Components) (g : q ≡ components_at s i) where
-    pub fill-fault : (n : ℕ) → q ≡ Fault n → K.Refused n at ≡ fill_set s at i
-    unfolding fill_set
-    fill-fault n h = rw (← g, h)
-
-    pub fill_over : (k l : ℕ) → q ≡ Over k l → (r : Command) → r ≡ ended_at s at l (K.Refused 6 k) → r ≡ fill_set s at i
-    unfolding fill_set
-    fill_over k l h r f = rw (f, ← g, h)
-
-    pub fill-read : (scheme x y z w l : ℕ) → q ≡ Read scheme x y z w l → (r : Command) → r ≡ ended_at s at l (K.Fill scheme x y z w l) → r ≡ fill_set s at i
-    unfolding fill_set
-    fill-read scheme x y z w l h r f = rw (f, ← g, h)
-
-pub ruleset colours = (component_in, component_out, one_short, one_read, three_short, three-read, four_short, four-read, scheme_none, by_parts_lem, colour-fault, colour_over, colour-read, fill-fault, fill_over, fill-read, rules)
+  -- `DF`: the scheme's letter is due at i, k bytes behind the command's first
+  pub fill_is : (k i : ℕ) → at + k ≡ i → draft_of at (closed (coloured (λ c. draw (colour_fill c)) k (drop i s))) ≡ fill_set s at i
+  unfolding fill_set
+  fill_is k i g = coloured_is at s (λ c. draw (colour_fill c)) (λ d. draft_of at (closed d)) (fill_of at s) (λ n. rw add-zero) fill_right k i g

@@ -1,3 +1,2 @@
-pub mod Placed
-pub mod Limits
+pub mod Drafts
 pub mod Colours

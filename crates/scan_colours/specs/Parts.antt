@@ -1,91 +1,74 @@
--- What the parts of the colours' scanners answer, at places of the whole list.
-use Rattle.std.specs.Prelude.{ℕ, ◌+◌, ◌-◌, List, [], ◌∷◌, map, drop, if◌then◌else◌}
-use Rattle.std.proofs.Math.Option.{Option, none, some}
-use Rattle.rules.specs.Bytes.{origin, moved, Nums, short, nums, integers}
-use Rattle.rules.specs.Act.{Scheme}
-use Rattle.rules.specs.Letters.{scheme_of, components}
-use Rattle.rules.specs.Record.{scheme_letter}
-use Rattle.rules.specs.Scan.{is_component, outside}
-use Rattle.scan_command.specs.View.{part}
+-- What the parts of the colours' scanners answer, for the command at a place of the whole list: step by step, in the order in which
+-- their refusals count.
+use Rattle.std.specs.Prelude.{ℕ, ◌+◌, ◌-◌, Bool, List, [], ◌∷◌, ltb, slice_get, get_or, Option, Some, None, Result, Ok, Err, if◌then◌else◌}
+use Rattle.rules.specs.declared.Refusal.{Refusal}
+use Rattle.rules.specs.Answers.{refusal, and_then}
+use Rattle.rules.specs.Bytes.{origin}
 use Rattle.scan_command.specs.declared.Command.{Command}
 use Rattle.scan_command.specs.declared.Command.TheVariants as K
-use Rattle.scan_arguments.specs.At.{one_at, three_at, four_at}
-use Rattle.scan_arguments.specs.declared.One.{One}
-use Rattle.scan_arguments.specs.declared.One.TheVariants as A
-use Rattle.scan_arguments.specs.declared.Three.{Three}
-use Rattle.scan_arguments.specs.declared.Three.TheVariants as C
-use Rattle.scan_arguments.specs.declared.Four.{Four}
-use Rattle.scan_arguments.specs.declared.Four.TheVariants as D
+use Rattle.scan_letters.specs.Selected.{parts_of as parts_selected}
+use Rattle.scan_letters.specs.declared.Parts.{Parts}
+use Rattle.scan_letters.specs.declared.Parts.TheVariants as P
+use Rattle.scan_arguments.specs.At.{due_at, within_of}
+use Rattle.scan_arguments.specs.declared.Argument.{Argument}
 use Rattle.scan_close.specs.Closed.{ended_at}
 use Rattle.scan_colours.specs.declared.Components.{Components}
-use Rattle.scan_colours.specs.declared.Components.TheVariants.{Fault, Over, Read}
 
--- ---- components: the definitions' integers, as the code answers them
+-- how many components the scheme of a letter has
+abbrev pub count_in : Parts → Option ℕ
+count_in P.Zero = Some 0
+count_in P.One = Some 1
+count_in P.Three = Some 3
+count_in P.Four = Some 4
+count_in P.Unknown = None
 
-abbrev pub components_with : Scheme → List ℕ → ℕ → Option ℕ → Components
-components_with c ns l none = Read (scheme_letter c) (part 0 ns) (part 1 ns) (part 2 ns) (part 3 ns) l
-components_with c ns l (some k) = Over k l
+abbrev pub count_of : ℕ → Option ℕ
+count_of scheme = count_in (parts_selected scheme)
 
-abbrev pub components_of : Scheme → Nums → Components
-components_of c short = Fault 4
-components_of c (nums ns ks l t) = components_with c (map moved ns) l (outside (map is_component (map moved ns)) ks)
+-- the component at i, where one is due there
+abbrev pub part_at : ℕ → List ℕ → ℕ → Bool → Result Argument Refusal
+part_at at s i due = if due then due_at at s i else Ok (record { number = origin; place = i; next = i })
 
-abbrev pub components_in : ℕ → List ℕ → Option Scheme → Components
-components_in k r none = Fault 3
-components_in k r (some c) = components_of c (integers (components c) k r)
+-- what the letter of the command at a place selects, or refusal 3
+abbrev pub known : {A : Type 0} → ℕ → Option A → Result A Refusal
+known at None = Err (refusal 3 at)
+known at (Some x) = Ok x
 
-abbrev pub components_from : ℕ → List ℕ → Components
-components_from k [] = Fault 3
-components_from k (b ∷ r) = components_in (k + 1) r (scheme_of b)
+-- so many components of a scheme, from i on
+abbrev pub components_from : ℕ → List ℕ → ℕ → ℕ → ℕ → Result Components Refusal
+components_from at s i scheme count =
+    and_then (part_at at s i (ltb 0 count)) (λ a.
+    and_then (part_at at s a.next (ltb 1 count)) (λ b.
+    and_then (part_at at s b.next (ltb 2 count)) (λ c.
+    and_then (part_at at s c.next (ltb 3 count)) (λ d. Ok (record { scheme = scheme; parts = a ∷ b ∷ c ∷ d ∷ []; next = d.next })))))
 
--- the scheme's letter is due at a place
-unfoldable pub components_at : List ℕ → ℕ → Components
-components_at s at = components_from at (drop at s)
+-- the scheme's letter is due at i
+abbrev pub components_at : ℕ → List ℕ → ℕ → Result Components Refusal
+components_at at s i =
+    and_then (known at (slice_get s i)) (λ scheme.
+    and_then (known at (count_of scheme)) (λ count. components_from at s (i + 1) scheme count))
 
--- no, one, three or four components from a place on, of a scheme's letter
+-- a component, within its limit: "components 0..65536"
+abbrev pub part_of : Argument → Result ℕ Refusal
+part_of a = and_then (within_of origin (origin + 65536) a) (λ z. Ok (a.number - origin))
 
-abbrev pub no_components : ℕ → ℕ → Components
-no_components scheme at = Read scheme 0 0 0 0 at
+abbrev pub parts_of : List Argument → Result (List ℕ) Refusal
+parts_of [] = Ok []
+parts_of (a ∷ all) = and_then (part_of a) (λ p. and_then (parts_of all) (λ ps. Ok (p ∷ ps)))
 
-abbrev pub component_then : ℕ → ℕ → ℕ → Components → Components
-component_then n place next rest = if is_component n then rest else Over place next
+-- ---- the commands, with their components at hand
 
-abbrev pub one_by : ℕ → One → Components
-one_by scheme A.Short = Fault 4
-one_by scheme (A.Read a pa n) = component_then a pa n (Read scheme (a - origin) 0 0 0 n)
+abbrev pub with_parts : (ℕ → ℕ → ℕ → ℕ → Command) → List ℕ → Command
+with_parts f ps = f (get_or ps 0 0) (get_or ps 1 0) (get_or ps 2 0) (get_or ps 3 0)
 
-unfoldable pub one_component : ℕ → List ℕ → ℕ → Components
-one_component scheme s at = one_by scheme (one_at s at)
+abbrev pub colour_of : Components → Result Command Refusal
+colour_of all = and_then (parts_of all.parts) (λ ps. Ok (with_parts (λ a b c d. K.Colour all.scheme a b c d all.next) ps))
 
-abbrev pub three_by : ℕ → Three → Components
-three_by scheme C.Short = Fault 4
-three_by scheme (C.Read a b c pa pb pc n) =
-    component_then a pa n (component_then b pb n (component_then c pc n (Read scheme (a - origin) (b - origin) (c - origin) 0 n)))
-
-unfoldable pub three_components : ℕ → List ℕ → ℕ → Components
-three_components scheme s at = three_by scheme (three_at s at)
-
-abbrev pub four_by : ℕ → Four → Components
-four_by scheme D.Short = Fault 4
-four_by scheme (D.Read a b c d pa pb pc pd n) =
-    component_then a pa n (component_then b pb n (component_then c pc n (component_then d pd n (Read scheme (a - origin) (b - origin) (c - origin) (d - origin) n))))
-
-unfoldable pub four_components : ℕ → List ℕ → ℕ → Components
-four_components scheme s at = four_by scheme (four_at s at)
-
--- ---- the commands
+abbrev pub fill_of : ℕ → List ℕ → Components → Result Command Refusal
+fill_of at s all =
+    and_then (ended_at s at all.next) (λ z.
+    and_then (parts_of all.parts) (λ ps. Ok (with_parts (λ a b c d. K.Fill all.scheme a b c d all.next) ps)))
 
 -- `DF`: the scheme's letter is due at i
-abbrev pub fill_by : List ℕ → ℕ → Components → Command
-fill_by s at (Fault n) = K.Refused n at
-fill_by s at (Over k n) = ended_at s at n (K.Refused 6 k)
-fill_by s at (Read scheme a b c d n) = ended_at s at n (K.Fill scheme a b c d n)
-
-unfoldable pub fill_set : List ℕ → ℕ → ℕ → Command
-fill_set s at i = fill_by s at (components_at s i)
-
--- `m`
-abbrev pub colour_by : ℕ → Components → Command
-colour_by at (Fault n) = K.Refused n at
-colour_by at (Over k n) = K.Refused 6 k
-colour_by at (Read scheme a b c d n) = K.Colour scheme a b c d n
+unfoldable pub fill_set : List ℕ → ℕ → ℕ → Result Command Refusal
+fill_set s at i = and_then (components_at at s i) (fill_of at s)

@@ -3,214 +3,119 @@
 #![tactic(auto)]
 
 ghost use Rattle.std.specs.Prelude.{◌≡◌, ◌<◌, length};
-ghost use Rattle.rules.specs.Scan.{is_component};
 ghost use Rattle.scan_command.specs.View.{letter_at};
-ghost use Rattle.scan_colours.specs.Parts.{component_then, no_components, one_component, three_components, four_components, components_at, fill_set};
+ghost use Rattle.scan_colours.specs.Parts.{count_of, part_at, components_at, part_of, parts_of, fill_set};
 
-use scan_arguments::{Four, One, Three};
+use rules::Refusal;
+use scan_arguments::{Argument, due_at};
 use scan_command::Command;
 use scan_letters::Parts;
 
-// What stands where a scheme's letter and its components are due: the number of a refusal; where the first component outside its
-// limit begins; or the letter and the components, those that are not used 0. `next` is the place behind the last component.
+// A scheme's letter, its components, and the place behind the last one. A component that the scheme has not is 0.
 #[derive(Clone, Copy)]
-enum Components {
-    Fault {
-        number: u32,
-    },
-    Over {
-        place: usize,
-        next: usize,
-    },
-    Read {
-        scheme: u32,
-        a: u32,
-        b: u32,
-        c: u32,
-        d: u32,
-        next: usize,
-    },
+struct Components {
+    scheme: u8,
+    parts: [Argument; 4],
+    next: usize,
 }
 
-fn is_component(n: u32) -> bool
-    ensures { result ≡ is_component n }
+// How many components the scheme of a letter has.
+fn count_of(scheme: u8) -> Option<usize>
+    ensures { result ≡ count_of scheme }
 {
-    (100_000_000 <= n) & (n <= 100_065_536)
-}
-
-// What the components behind the one at a place come to, with that one judged before them.
-fn component(n: u32, place: usize, next: usize, rest: Components) -> Components
-    ensures { result ≡ component_then n place next rest }
-{
-    if is_component(n) {
-        rest
-    } else {
-        Components::Over { place, next }
-    }
-}
-
-fn no_components(next: usize, scheme: u8) -> Components
-    ensures { result ≡ no_components scheme next }
-{
-    Components::Read {
-        scheme: scheme as u32,
-        a: 0,
-        b: 0,
-        c: 0,
-        d: 0,
-        next,
-    }
-}
-
-fn one_component(s: &[u8], at: usize, scheme: u8) -> Components
-    ensures { result ≡ one_component scheme s.now at }
-{
-    match scan_arguments::one_at(s, at) {
-        One::Short => Components::Fault { number: 4 },
-        One::Read { a, pa, next } => {
-            let all = Components::Read {
-                scheme: scheme as u32,
-                a: scan_integer::unmoved(a),
-                b: 0,
-                c: 0,
-                d: 0,
-                next,
-            };
-            component(a, pa, next, all)
-        }
-    }
-}
-
-fn three_components(s: &[u8], at: usize, scheme: u8) -> Components
-    ensures { result ≡ three_components scheme s.now at }
-{
-    match scan_arguments::three_at(s, at) {
-        Three::Short => Components::Fault { number: 4 },
-        Three::Read {
-            a,
-            b,
-            c,
-            pa,
-            pb,
-            pc,
-            next,
-        } => {
-            let all = Components::Read {
-                scheme: scheme as u32,
-                a: scan_integer::unmoved(a),
-                b: scan_integer::unmoved(b),
-                c: scan_integer::unmoved(c),
-                d: 0,
-                next,
-            };
-            let second = component(b, pb, next, component(c, pc, next, all));
-            component(a, pa, next, second)
-        }
-    }
-}
-
-fn four_components(s: &[u8], at: usize, scheme: u8) -> Components
-    ensures { result ≡ four_components scheme s.now at }
-{
-    match scan_arguments::four_at(s, at) {
-        Four::Short => Components::Fault { number: 4 },
-        Four::Read {
-            a,
-            b,
-            c,
-            d,
-            pa,
-            pb,
-            pc,
-            pd,
-            next,
-        } => {
-            let all = Components::Read {
-                scheme: scheme as u32,
-                a: scan_integer::unmoved(a),
-                b: scan_integer::unmoved(b),
-                c: scan_integer::unmoved(c),
-                d: scan_integer::unmoved(d),
-                next,
-            };
-            let third = component(c, pc, next, component(d, pd, next, all));
-            component(a, pa, next, component(b, pb, next, third))
-        }
-    }
-}
-
-// The scheme's letter is due at a place.
-fn components_at(s: &[u8], at: usize) -> Components
-    ensures { result ≡ components_at s.now at }
-{
-    if s.len() <= at {
-        return Components::Fault { number: 3 };
-    }
-    let next = at + 1;
-    let scheme = s[at];
     match scan_letters::parts_of(scheme) {
-        Parts::Zero => no_components(next, scheme),
-        Parts::One => one_component(s, next, scheme),
-        Parts::Three => three_components(s, next, scheme),
-        Parts::Four => four_components(s, next, scheme),
-        Parts::Unknown => Components::Fault { number: 3 },
+        Parts::Zero => Some(0),
+        Parts::One => Some(1),
+        Parts::Three => Some(3),
+        Parts::Four => Some(4),
+        Parts::Unknown => None,
     }
+}
+
+// The component at i, where one is due there.
+fn part_at(s: &[u8], at: usize, i: usize, due: bool) -> Result<Argument, Refusal>
+    ensures { result ≡ part_at at s.now i due }
+{
+    if due {
+        due_at(s, at, i)
+    } else {
+        Ok(Argument {
+            number: 100_000_000,
+            place: i,
+            next: i,
+        })
+    }
+}
+
+// The scheme's letter is due at i.
+fn components_at(s: &[u8], at: usize, i: usize) -> Result<Components, Refusal>
+    ensures { result ≡ components_at at s.now i }
+{
+    let unknown = Refusal {
+        number: 3,
+        offset: at,
+    };
+    let scheme = *s.get(i).ok_or(unknown)?;
+    let count = count_of(scheme).ok_or(unknown)?;
+    let a = part_at(s, at, i + 1, 0 < count)?;
+    let b = part_at(s, at, a.next, 1 < count)?;
+    let c = part_at(s, at, b.next, 2 < count)?;
+    let d = part_at(s, at, c.next, 3 < count)?;
+    Ok(Components {
+        scheme,
+        parts: [a, b, c, d],
+        next: d.next,
+    })
+}
+
+// A component, within its limit.
+fn part_of(a: Argument) -> Result<u32, Refusal>
+    ensures { result ≡ part_of a }
+{
+    a.within(100_000_000, 100_065_536)?;
+    Ok(scan_integer::unmoved(a.number))
+}
+
+// Four components, each within its limit.
+fn parts_of(all: [Argument; 4]) -> Result<[u32; 4], Refusal>
+    ensures { result ≡ parts_of all }
+{
+    let [a, b, c, d] = all;
+    Ok([part_of(a)?, part_of(b)?, part_of(c)?, part_of(d)?])
 }
 
 // The command `m` at a place.
-pub fn colour(s: &[u8], at: usize) -> Command
+#[tactic(auto, using(crate::proofs::Colours::colour_is))]
+pub fn colour(s: &[u8], at: usize) -> Result<Command, Refusal>
     requires { at < length s.now }
     ensures { result ≡ letter_at 109 s.now at }
 {
-    let i = scan_lex::spacer_end(s, at + 1);
-    match components_at(s, i) {
-        Components::Fault { number } => Command::Refused { number, place: at },
-        Components::Over { place, next } => Command::Refused { number: 6, place },
-        Components::Read {
-            scheme,
-            a,
-            b,
-            c,
-            d,
-            next,
-        } => Command::Colour {
-            scheme,
-            a,
-            b,
-            c,
-            d,
-            next,
-        },
-    }
+    let all = components_at(s, at, scan_lex::spacer_end(s, at + 1))?;
+    let [a, b, c, d] = parts_of(all.parts)?;
+    Ok(Command::Colour {
+        scheme: all.scheme as u32,
+        a,
+        b,
+        c,
+        d,
+        next: all.next,
+    })
 }
 
 // The command `DF` at a place, its scheme's letter due at i.
-pub fn fill(s: &[u8], at: usize, i: usize) -> Command
+#[tactic(auto, unfolding(crate::specs::Parts::fill_set))]
+pub fn fill(s: &[u8], at: usize, i: usize) -> Result<Command, Refusal>
     ensures { result ≡ fill_set s.now at i }
 {
-    match components_at(s, i) {
-        Components::Fault { number } => Command::Refused { number, place: at },
-        Components::Over { place, next } => {
-            let c = Command::Refused { number: 6, place };
-            scan_close::ending(s, at, next, c)
-        }
-        Components::Read {
-            scheme,
-            a,
-            b,
-            c,
-            d,
-            next,
-        } => {
-            let all = Command::Fill {
-                scheme,
-                a,
-                b,
-                c,
-                d,
-                next,
-            };
-            scan_close::ending(s, at, next, all)
-        }
-    }
+    let all = components_at(s, at, i)?;
+    scan_close::ending(s, at, all.next)?;
+    let [a, b, c, d] = parts_of(all.parts)?;
+    Ok(Command::Fill {
+        scheme: all.scheme as u32,
+        a,
+        b,
+        c,
+        d,
+        next: all.next,
+    })
 }

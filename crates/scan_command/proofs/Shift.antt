@@ -1,6 +1,5 @@
 -- Integers read from a command's place on, and from the start of the stream on: the places differ by the command's place, and
 -- nothing else.
-use Rattle.std.specs.Prelude.{if◌then◌else◌}
 use Prim.Native.Nat.{ℕ, zero, suc, ◌+◌}
 use native.Mathlib.Omega.{arith}
 use mathlib.Core.List.{List, map}

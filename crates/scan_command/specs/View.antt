@@ -1,18 +1,22 @@
 -- A command of the rules, as the code answers it: the values of each case, and the number and place of a refusal.
-use Rattle.std.specs.Prelude.{ℕ, ◌+◌, ◌-◌, List, length, drop, get_or}
+use Rattle.std.specs.Prelude.{ℕ, ◌+◌, ◌-◌, List, length, drop, get_or, Result, Ok, Err}
+use Rattle.rules.specs.declared.Refusal.{Refusal}
 use Rattle.rules.specs.Bytes.{origin}
-use Rattle.rules.specs.Act.{Axis, across, down, Shape, line, arc, circle, solid_circle, ellipse, solid_ellipse, polygon, solid_polygon, spline, thickness, gray_fill, colour_fill, Act, glyph, index, to, by, page, font, size, colour, break, space, draw, device, resolution, init, file, mount, plain, raw, stop, Cmd, just, word, pair}
+use Rattle.rules.specs.Act.{Axis as Direction, across, down, Shape, line, arc, circle, solid_circle, ellipse, solid_ellipse, polygon, solid_polygon, spline, thickness, gray_fill, colour_fill, Act, glyph, index, to, by, page, font, size, colour, break, space, draw, device, resolution, init, file, mount, plain, raw, stop, Cmd, just, word, pair}
 use Rattle.rules.specs.Drawing.{Way, way_of}
 use Rattle.rules.specs.Letters.{Draft}
 use Rattle.rules.specs.Scan.{Scan, got, bad, judged, letter, command}
 use Rattle.rules.specs.State.{padded}
+use Rattle.rules.specs.Answers.{refusal}
 use Rattle.rules.specs.Record.{scheme_letter, shape_letter, plain_letter}
+use Rattle.scan_command.specs.declared.Axis.{Axis}
+use Rattle.scan_command.specs.declared.Axis.TheVariants.{Across, Down}
 use Rattle.scan_command.specs.declared.Command.{Command}
 use Rattle.scan_command.specs.declared.Command.TheVariants as C
 
-abbrev pub axis_number : Axis → ℕ
-axis_number across = 0
-axis_number down = 1
+abbrev pub axis_of : Direction → Axis
+axis_of across = Across
+axis_of down = Down
 
 -- a drawing that moves by a way and ends at e
 abbrev pub drawn : Shape → Way → ℕ → Command
@@ -43,8 +47,8 @@ draw_of (colour_fill c) ns e = C.Fill (scheme_letter c) (part 0 ns) (part 1 ns) 
 abbrev pub act_of : ℕ → ℕ → Act → Command
 act_of p e (glyph n) = C.Glyph p (length n) e
 act_of p e (index n) = C.Index n e
-act_of p e (to x n) = C.To (axis_number x) n e
-act_of p e (by x n) = C.By (axis_number x) n e
+act_of p e (to x n) = C.To (axis_of x) n e
+act_of p e (by x n) = C.By (axis_of x) n e
 act_of p e (page n) = C.Page n e
 act_of p e (font n) = C.Font (n - origin) e
 act_of p e (size n) = C.Size (n - origin) e
@@ -67,18 +71,18 @@ cmd_of p e (word n bs) = C.Word n p (p + length bs) e
 cmd_of p e (pair n b) = C.Pair n p e
 
 -- what was scanned at a place
-abbrev pub command_of : ℕ → Scan → Command
-command_of at (got c a l) = cmd_of (at + a) (at + l) c
-command_of at (bad n k) = C.Refused n (at + k)
+abbrev pub command_of : ℕ → Scan → Result Command Refusal
+command_of at (got c a l) = Ok (cmd_of (at + a) (at + l) c)
+command_of at (bad n k) = Err (refusal n (at + k))
 
 -- a draft at a place, its limits judged
-abbrev pub draft_of : ℕ → Draft → Command
+abbrev pub draft_of : ℕ → Draft → Result Command Refusal
 draft_of at d = command_of at (judged d)
 
 -- the command of a letter b at a place
-unfoldable pub letter_at : ℕ → List ℕ → ℕ → Command
+unfoldable pub letter_at : ℕ → List ℕ → ℕ → Result Command Refusal
 letter_at b s at = draft_of at (letter b (drop (at + 1) s))
 
 -- the command at a place
-unfoldable pub command_at : List ℕ → ℕ → Command
+unfoldable pub command_at : List ℕ → ℕ → Result Command Refusal
 command_at s at = command_of at (command (get_or s at 0) (drop (at + 1) s))

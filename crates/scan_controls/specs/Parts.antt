@@ -1,26 +1,21 @@
--- What the parts of the control scanner answer, at places of the whole list.
-use Rattle.std.specs.Prelude.{ℕ, ◌-◌, Bool, List, leb, if◌then◌else◌}
-use Rattle.rules.specs.Bytes.{is_space, is_not_white, name_most, origin, within}
-use Rattle.rules.specs.Scan.{is_position, is_positive}
+-- What the parts of the control scanner answer, for the command at a place of the whole list, its arguments from i on: step by step, in
+-- the order in which their refusals count.
+use Rattle.std.specs.Prelude.{ℕ, ◌+◌, ◌-◌, List, leb, Result, Ok, Err, if◌then◌else◌}
+use Rattle.rules.specs.declared.Refusal.{Refusal}
+use Rattle.rules.specs.Answers.{refusal, and_then}
+use Rattle.rules.specs.Bytes.{is_space, is_not_white, name_most, origin, most}
 use Rattle.scan_command.specs.declared.Command.{Command}
 use Rattle.scan_command.specs.declared.Command.TheVariants as K
+use Rattle.scan_letters.specs.Selected.{control_of}
+use Rattle.scan_letters.specs.declared.Control.{Control}
+use Rattle.scan_letters.specs.declared.Control.TheVariants as L
 use Rattle.scan_lex.specs.At.{run_end, is_name_byte}
-use Rattle.scan_arguments.specs.At.{one_at, three_at}
-use Rattle.scan_arguments.specs.declared.One.{One}
-use Rattle.scan_arguments.specs.declared.One.TheVariants as A
-use Rattle.scan_arguments.specs.declared.Three.{Three}
-use Rattle.scan_arguments.specs.declared.Three.TheVariants as C
+use Rattle.scan_arguments.specs.At.{due_at, within_of}
 use Rattle.scan_close.specs.Closed.{within_or, clear_or, ended_at}
+use Rattle.scan_raw.specs.Parts.{raw_at}
+use Rattle.scan_controls.specs.declared.Name.{Name}
 
--- ---- of the command at a place, the arguments from i on
-
--- the string from p to e is the last argument
-unfoldable pub named_to : List ℕ → ℕ → ℕ → ℕ → Command → Command
-named_to s at p e c = if leb e p then K.Refused 4 at else ended_at s at e c
-
--- the string at p has n bytes; t: none of them is barred
-abbrev pub clear_name : ℕ → ℕ → ℕ → Bool → Command → Command
-clear_name at p n t c = within_or (leb n name_most) p (clear_or t at c)
+-- ---- a string
 
 -- where the string behind a spacer begins, where its first barred byte or its end is, and where it ends
 abbrev pub name_from : List ℕ → ℕ → ℕ
@@ -33,44 +28,64 @@ abbrev pub name_to : List ℕ → ℕ → ℕ
 name_to s i = run_end is_not_white s (clear_to s i)
 
 -- the string from p to e, whose first barred byte, or its end, is at q
-abbrev pub name_by : (ℕ → ℕ → ℕ → Command) → List ℕ → ℕ → ℕ → ℕ → ℕ → Command
-name_by f s at p q e = named_to s at p e (clear_name at p (e - p) (leb e q) (f p (e - p) e))
+abbrev pub name_of : ℕ → ℕ → ℕ → Name
+name_of p q e = record { place = p; len = e - p; clear = leb e q; next = e }
 
-unfoldable pub device_at : List ℕ → ℕ → ℕ → Command
-device_at s at i = name_by K.Device s at (name_from s i) (clear_to s i) (name_to s i)
+abbrev pub name_by : ℕ → List ℕ → ℕ → ℕ → ℕ → Result Name Refusal
+name_by at s p q e = if leb e p then Err (refusal 4 at) else and_then (ended_at s at e) (λ z. Ok (name_of p q e))
 
-unfoldable pub file_at : List ℕ → ℕ → ℕ → Command
-file_at s at i = name_by K.File s at (name_from s i) (clear_to s i) (name_to s i)
+unfoldable pub name_due : ℕ → List ℕ → ℕ → Result Name Refusal
+name_due at s i = name_by at s (name_from s i) (clear_to s i) (name_to s i)
 
--- the number a begins at pa
-abbrev pub mounted_to : ℕ → ℕ → List ℕ → ℕ → ℕ → ℕ → ℕ → Command
-mounted_to a pa s at p q e = named_to s at p e (within_or (is_position a) pa (clear_name at p (e - p) (leb e q) (K.Mount (a - origin) p (e - p) e)))
+-- it has at most 64 bytes, and none of them is barred
+abbrev pub name_fits : ℕ → Name → Result Unit Refusal
+name_fits at n = and_then (within_or (leb n.len name_most) n.place) (λ z. clear_or n.clear at)
 
-unfoldable pub mounted_at : ℕ → ℕ → List ℕ → ℕ → ℕ → Command
-mounted_at a pa s at i = mounted_to a pa s at (name_from s i) (clear_to s i) (name_to s i)
+abbrev pub named_at : ℕ → List ℕ → ℕ → Result Name Refusal
+named_at at s i = and_then (name_due at s i) (λ n. and_then (name_fits at n) (λ z. Ok n))
 
-abbrev pub mount_by : List ℕ → ℕ → One → Command
-mount_by s at A.Short = K.Refused 4 at
-mount_by s at (A.Read a pa n) = mounted_at a pa s at n
+-- ---- the controls
 
-unfoldable pub mount_at : List ℕ → ℕ → ℕ → Command
-mount_at s at i = mount_by s at (one_at s i)
+unfoldable pub mount_at : List ℕ → ℕ → ℕ → Result Command Refusal
+mount_at s at i =
+    and_then (due_at at s i) (λ a.
+    and_then (name_due at s a.next) (λ n.
+    and_then (within_of origin (origin + 255) a) (λ z.
+    and_then (name_fits at n) (λ z. Ok (K.Mount (a.number - origin) n.place n.len n.next)))))
 
--- a control that changes nothing
-abbrev pub bare_at : ℕ → ℕ → Command
-bare_at letter next = K.Plain letter next
+-- controls that change nothing
+unfoldable pub bare_at : ℕ → List ℕ → ℕ → ℕ → Result Command Refusal
+bare_at letter s at i = and_then (ended_at s at i) (λ z. Ok (K.Plain letter i))
 
-abbrev pub plain_by : ℕ → ℕ → ℕ → List ℕ → ℕ → One → Command
-plain_by letter lo hi s at A.Short = K.Refused 4 at
-plain_by letter lo hi s at (A.Read a pa n) = ended_at s at n (within_or (within lo hi a) pa (bare_at letter n))
+unfoldable pub plain_at : ℕ → ℕ → ℕ → List ℕ → ℕ → ℕ → Result Command Refusal
+plain_at letter lo hi s at i =
+    and_then (due_at at s i) (λ a.
+    and_then (ended_at s at a.next) (λ z.
+    and_then (within_of lo hi a) (λ z. Ok (K.Plain letter a.next))))
 
-unfoldable pub plain_at : ℕ → ℕ → ℕ → List ℕ → ℕ → ℕ → Command
-plain_at letter lo hi s at i = plain_by letter lo hi s at (one_at s i)
+-- from 1 to 99,999,999
+unfoldable pub resolution_at : List ℕ → ℕ → ℕ → Result Command Refusal
+resolution_at s at i =
+    and_then (due_at at s i) (λ a.
+    and_then (due_at at s a.next) (λ b.
+    and_then (due_at at s b.next) (λ c.
+    and_then (ended_at s at c.next) (λ z.
+    and_then (within_of (origin + 1) (origin + most) a) (λ z.
+    and_then (within_of (origin + 1) (origin + most) b) (λ z.
+    and_then (within_of (origin + 1) (origin + most) c) (λ z. Ok (K.Resolution (b.number - origin) c.next))))))))
 
-abbrev pub resolution_by : List ℕ → ℕ → Three → Command
-resolution_by s at C.Short = K.Refused 4 at
-resolution_by s at (C.Read a b c pa pb pc n) =
-    ended_at s at n (within_or (is_positive a) pa (within_or (is_positive b) pb (within_or (is_positive c) pc (K.Resolution (b - origin) n))))
+-- by what the letter b selects
+abbrev pub control_by : ℕ → List ℕ → ℕ → ℕ → Control → Result Command Refusal
+control_by b s at i L.Device = and_then (named_at at s i) (λ n. Ok (K.Device n.place n.len n.next))
+control_by b s at i L.Resolution = resolution_at s at i
+control_by b s at i L.Init = and_then (ended_at s at i) (λ z. Ok (K.Init i))
+control_by b s at i L.File = and_then (named_at at s i) (λ n. Ok (K.File n.place n.len n.next))
+control_by b s at i L.Mount = mount_at s at i
+control_by b s at i L.Bare = bare_at b s at i
+control_by b s at i (L.Number lo hi) = plain_at b lo hi s at i
+control_by b s at i L.Stop = and_then (ended_at s at i) (λ z. Ok (K.Stop i))
+control_by b s at i L.Text = raw_at s i
+control_by b s at i L.Unknown = Err (refusal 3 at)
 
-unfoldable pub resolution_at : List ℕ → ℕ → ℕ → Command
-resolution_at s at i = resolution_by s at (three_at s i)
+unfoldable pub control_at : ℕ → List ℕ → ℕ → ℕ → Result Command Refusal
+control_at b s at i = control_by b s at i (control_of b)

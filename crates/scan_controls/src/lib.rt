@@ -3,197 +3,175 @@
 #![tactic(auto)]
 
 ghost use Rattle.std.specs.Prelude.{◌≡◌, ◌<◌, length};
-ghost use Rattle.rules.specs.Scan.{is_position, is_positive};
 ghost use Rattle.scan_command.specs.View.{letter_at};
-ghost use Rattle.scan_controls.specs.Parts.{named_to, clear_name, device_at, file_at, mounted_at, mount_at, bare_at, plain_at, resolution_at};
+ghost use Rattle.scan_controls.specs.Parts.{name_due, name_fits, named_at, mount_at, bare_at, plain_at, resolution_at, control_at};
 
-use scan_arguments::{One, Three};
+use rules::Refusal;
+use scan_arguments::due_at;
+use scan_close::ending;
 use scan_command::Command;
 use scan_letters::Control;
 
-// From 1 to 99,999,999.
-fn is_positive(n: u32) -> bool
-    ensures { result ≡ is_positive n }
-{
-    (100_000_001 <= n) & (n <= 199_999_999)
+// A string: where it begins, how long it is, whether none of its bytes is barred, and the place behind it.
+#[derive(Clone, Copy)]
+struct Name {
+    place: usize,
+    len: usize,
+    clear: bool,
+    next: usize,
 }
 
-// From 0 to 255.
-fn is_position(n: u32) -> bool
-    ensures { result ≡ is_position n }
-{
-    (100_000_000 <= n) & (n <= 100_000_255)
-}
-
-// The answer c of the command at a place, whose last argument is a string from place to next.
-fn named(s: &[u8], at: usize, place: usize, next: usize, c: Command) -> Command
-    ensures { result ≡ named_to s.now at place next c }
-{
-    if next <= place {
-        return Command::Refused {
-            number: 4,
-            place: at,
-        };
+impl Name {
+    // It has at most 64 bytes, and none of them is barred.
+    fn fits(self, at: usize) -> Result<(), Refusal>
+        ensures { result ≡ name_fits at self }
+    {
+        scan_close::within(self.len <= 64, self.place)?;
+        scan_close::cleared(self.clear, at)
     }
-    scan_close::ending(s, at, next, c)
 }
 
-// The answer c of the command at a place, where its string at another has at most 64 bytes, and none of them is barred.
-fn clear_name(at: usize, place: usize, len: usize, clear: bool, c: Command) -> Command
-    ensures { result ≡ clear_name at place len clear c }
-{
-    scan_close::within(len <= 64, place, scan_close::cleared(clear, at, c))
-}
-
-// `T`. Here and below, the command's place is `at`, and its arguments stand from i on.
-fn device(s: &[u8], at: usize, i: usize) -> Command
-    ensures { result ≡ device_at s.now at i }
+// The string that is due from i on, of the command at a place, as its last argument.
+#[tactic(auto, unfolding(crate::specs::Parts::name_due))]
+fn name_due(s: &[u8], at: usize, i: usize) -> Result<Name, Refusal>
+    ensures { result ≡ name_due at s.now i }
 {
     let place = scan_lex::spacer_end(s, i);
     let clear_end = scan_lex::name_end(s, place);
     let next = scan_lex::string_end(s, clear_end);
-    let len = next - place;
-    let c = Command::Device { place, len, next };
-    let judged = clear_name(at, place, len, next <= clear_end, c);
-    named(s, at, place, next, judged)
-}
-
-// `F`
-fn file(s: &[u8], at: usize, i: usize) -> Command
-    ensures { result ≡ file_at s.now at i }
-{
-    let place = scan_lex::spacer_end(s, i);
-    let clear_end = scan_lex::name_end(s, place);
-    let next = scan_lex::string_end(s, clear_end);
-    let len = next - place;
-    let c = Command::File { place, len, next };
-    let judged = clear_name(at, place, len, next <= clear_end, c);
-    named(s, at, place, next, judged)
-}
-
-// `f` with its number, which begins at pa: the string is due from i on.
-fn mounted(s: &[u8], at: usize, i: usize, a: u32, pa: usize) -> Command
-    ensures { result ≡ mounted_at a pa s.now at i }
-{
-    let place = scan_lex::spacer_end(s, i);
-    let clear_end = scan_lex::name_end(s, place);
-    let next = scan_lex::string_end(s, clear_end);
-    let len = next - place;
-    let c = Command::Mount {
-        position: scan_integer::unmoved(a),
+    if next <= place {
+        return Err(Refusal {
+            number: 4,
+            offset: at,
+        });
+    }
+    ending(s, at, next)?;
+    Ok(Name {
         place,
-        len,
+        len: next - place,
+        clear: next <= clear_end,
         next,
-    };
-    let second = clear_name(at, place, len, next <= clear_end, c);
-    let judged = scan_close::within(is_position(a), pa, second);
-    named(s, at, place, next, judged)
+    })
+}
+
+// `T`, `F`: the string alone. Here and below, the command's place is `at`, and its arguments stand from i on.
+fn named(s: &[u8], at: usize, i: usize) -> Result<Name, Refusal>
+    ensures { result ≡ named_at at s.now i }
+{
+    let name = name_due(s, at, i)?;
+    name.fits(at)?;
+    Ok(name)
 }
 
 // `f`
-fn mount(s: &[u8], at: usize, i: usize) -> Command
+#[tactic(auto, unfolding(crate::specs::Parts::mount_at))]
+fn mount(s: &[u8], at: usize, i: usize) -> Result<Command, Refusal>
     ensures { result ≡ mount_at s.now at i }
 {
-    match scan_arguments::one_at(s, i) {
-        One::Short => Command::Refused {
-            number: 4,
-            place: at,
-        },
-        One::Read { a, pa, next } => mounted(s, at, next, a, pa),
-    }
+    let position = due_at(s, at, i)?;
+    let name = name_due(s, at, position.next)?;
+    position.within(100_000_000, 100_000_255)?;
+    name.fits(at)?;
+    Ok(Command::Mount {
+        position: scan_integer::unmoved(position.number),
+        place: name.place,
+        len: name.len,
+        next: name.next,
+    })
 }
 
-// A control that changes nothing.
-fn bare(letter: u8, next: usize) -> Command
-    ensures { result ≡ bare_at letter next }
+// A control that changes nothing and has no argument.
+#[tactic(auto, unfolding(crate::specs::Parts::bare_at))]
+fn bare(s: &[u8], at: usize, i: usize, letter: u8) -> Result<Command, Refusal>
+    ensures { result ≡ bare_at letter s.now at i }
 {
-    Command::Plain {
+    ending(s, at, i)?;
+    Ok(Command::Plain {
         letter: letter as u32,
-        next,
-    }
+        next: i,
+    })
 }
 
-// One integer from lo to hi.
-fn plain(s: &[u8], at: usize, i: usize, letter: u8, lo: u32, hi: u32) -> Command
+// A control that changes nothing and has one integer from lo to hi.
+#[tactic(auto, unfolding(crate::specs::Parts::plain_at))]
+fn plain(s: &[u8], at: usize, i: usize, letter: u8, lo: u32, hi: u32) -> Result<Command, Refusal>
     ensures { result ≡ plain_at letter lo hi s.now at i }
 {
-    match scan_arguments::one_at(s, i) {
-        One::Short => Command::Refused {
-            number: 4,
-            place: at,
-        },
-        One::Read { a, pa, next } => {
-            let c = bare(letter, next);
-            scan_close::ending(
-                s,
-                at,
-                next,
-                scan_close::within(scan_integer::is_within(lo, hi, a), pa, c),
-            )
-        }
-    }
+    let n = due_at(s, at, i)?;
+    ending(s, at, n.next)?;
+    n.within(lo, hi)?;
+    Ok(Command::Plain {
+        letter: letter as u32,
+        next: n.next,
+    })
 }
 
-// `r`
-fn resolution(s: &[u8], at: usize, i: usize) -> Command
+// `r`: three integers of at least 1
+#[tactic(auto, unfolding(crate::specs::Parts::resolution_at))]
+fn resolution(s: &[u8], at: usize, i: usize) -> Result<Command, Refusal>
     ensures { result ≡ resolution_at s.now at i }
 {
-    match scan_arguments::three_at(s, i) {
-        Three::Short => Command::Refused {
-            number: 4,
-            place: at,
-        },
-        Three::Read {
-            a,
-            b,
-            c,
-            pa,
-            pb,
-            pc,
-            next,
-        } => {
-            let all = Command::Resolution {
-                quantum: scan_integer::unmoved(b),
+    let n = due_at(s, at, i)?;
+    let h = due_at(s, at, n.next)?;
+    let v = due_at(s, at, h.next)?;
+    ending(s, at, v.next)?;
+    n.within(100_000_001, 199_999_999)?;
+    h.within(100_000_001, 199_999_999)?;
+    v.within(100_000_001, 199_999_999)?;
+    Ok(Command::Resolution {
+        quantum: scan_integer::unmoved(h.number),
+        next: v.next,
+    })
+}
+
+// The control of a letter: its word ends at i.
+#[tactic(auto, unfolding(crate::specs::Parts::control_at))]
+fn lettered(s: &[u8], at: usize, i: usize, letter: u8) -> Result<Command, Refusal>
+    ensures { result ≡ control_at letter s.now at i }
+{
+    match scan_letters::control_of(letter) {
+        Control::Device => {
+            let Name {
+                place,
+                len,
                 next,
-            };
-            let third = scan_close::within(is_positive(c), pc, all);
-            let judged = scan_close::within(
-                is_positive(a),
-                pa,
-                scan_close::within(is_positive(b), pb, third),
-            );
-            scan_close::ending(s, at, next, judged)
+                ..
+            } = named(s, at, i)?;
+            Ok(Command::Device { place, len, next })
         }
+        Control::Resolution => resolution(s, at, i),
+        Control::Init => ending(s, at, i).map(|()| Command::Init { next: i }),
+        Control::File => {
+            let Name {
+                place,
+                len,
+                next,
+                ..
+            } = named(s, at, i)?;
+            Ok(Command::File { place, len, next })
+        }
+        Control::Mount => mount(s, at, i),
+        Control::Bare => bare(s, at, i, letter),
+        Control::Number { lo, hi } => plain(s, at, i, letter, lo, hi),
+        Control::Stop => ending(s, at, i).map(|()| Command::Stop { next: i }),
+        Control::Text => scan_raw::raw(s, i),
+        Control::Unknown => Err(Refusal {
+            number: 3,
+            offset: at,
+        }),
     }
 }
 
 // The command `x` at a place.
-pub fn control(s: &[u8], at: usize) -> Command
+#[tactic(auto, using(crate::proofs::Forms::letter_is))]
+pub fn control(s: &[u8], at: usize) -> Result<Command, Refusal>
     requires { at < length s.now }
     ensures { result ≡ letter_at 120 s.now at }
 {
     let i = scan_lex::spacer_end(s, at + 1);
-    if s.len() <= i {
-        return Command::Refused {
-            number: 3,
-            place: at,
-        };
-    }
-    let next = scan_lex::string_end(s, i + 1);
-    let letter = s[i];
-    match scan_letters::control_of(letter) {
-        Control::Device => device(s, at, next),
-        Control::Resolution => resolution(s, at, next),
-        Control::Init => scan_close::ending(s, at, next, Command::Init { next }),
-        Control::File => file(s, at, next),
-        Control::Mount => mount(s, at, next),
-        Control::Bare => scan_close::ending(s, at, next, bare(letter, next)),
-        Control::Number { lo, hi } => plain(s, at, next, letter, lo, hi),
-        Control::Stop => scan_close::ending(s, at, next, Command::Stop { next }),
-        Control::Text => scan_raw::raw(s, next),
-        Control::Unknown => Command::Refused {
-            number: 3,
-            place: at,
-        },
-    }
+    let letter = *s.get(i).ok_or(Refusal {
+        number: 3,
+        offset: at,
+    })?;
+    lettered(s, at, scan_lex::string_end(s, i + 1), letter)
 }

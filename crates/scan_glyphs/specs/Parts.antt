@@ -1,39 +1,52 @@
 -- What the parts of the commands that draw glyphs answer, at places of the whole stream.
-use Rattle.std.specs.Prelude.{ℕ, Bool, List, leb, drop, if◌then◌else◌}
-use Rattle.rules.specs.Bytes.{is_not_white, near}
+use Rattle.std.specs.Prelude.{ℕ, List, leb, drop, get_or, Option, Some, None, Result, Ok, Err, if◌then◌else◌}
+use Rattle.rules.specs.Bytes.{is_space, is_not_white}
 use Rattle.rules.specs.Letters.{white_next}
+use Rattle.rules.specs.declared.Refusal.{Refusal}
+use Rattle.rules.specs.Answers.{refusal, and_then}
 use Rattle.scan_command.specs.declared.Command.{Command}
-use Rattle.scan_command.specs.declared.Command.TheVariants.{Word, Refused}
-use Rattle.scan_lex.specs.At.{run_end}
-use Rattle.scan_arguments.specs.At.{perhaps_at}
-use Rattle.scan_arguments.specs.declared.Perhaps.{Perhaps}
-use Rattle.scan_arguments.specs.declared.Perhaps.TheVariants as P
+use Rattle.scan_command.specs.declared.Command.TheVariants.{Word}
+use Rattle.scan_lex.specs.At.{run_end, is_name_byte}
+use Rattle.scan_arguments.specs.At.{near_of, perhaps_at}
+use Rattle.scan_arguments.specs.declared.Argument.{Argument}
 use Rattle.scan_close.specs.Closed.{clear_or}
-use Rattle.scan_glyphs.specs.declared.Dummy.{Dummy}
-use Rattle.scan_glyphs.specs.declared.Dummy.TheVariants.{Fine, Outside, Malformed}
-
--- the dummy behind a word that ends at a place
-abbrev pub dummy_of : List ℕ → Perhaps → Dummy
-dummy_of s P.Short = Malformed
-dummy_of s (P.Absent e) = Fine e
-dummy_of s (P.Read a pa e) = if white_next (drop e s) then (if near a then Fine e else Outside pa) else Malformed
-
-unfoldable pub dummy_at : List ℕ → ℕ → Dummy
-dummy_at s at = dummy_of s (perhaps_at s at)
 
 -- no glyph's byte stands at p: whitespace or the end, or a barred byte
-unfoldable pub no_glyph : List ℕ → ℕ → ℕ → Command
-no_glyph s at p = if white_next (drop p s) then Refused 4 at else Refused 16 at
+abbrev pub no_glyph : ℕ → List ℕ → ℕ → Refusal
+no_glyph at s p = if white_next (drop p s) then refusal 4 at else refusal 16 at
 
--- of the command at a place: the word from p to e, with its dummy, a number that stands at pa, and whether no byte of it is barred
-unfoldable pub word_with : ℕ → ℕ → ℕ → ℕ → ℕ → Bool → Dummy → Command
-word_with track pa p e at t Malformed = Refused 4 at
-word_with track pa p e at t (Outside k) = if near track then Refused 6 k else Refused 6 pa
-word_with track pa p e at t (Fine l) = if near track then clear_or t at (Word track p e l) else Refused 6 pa
+-- where a glyph's byte stands, perhaps behind a spacer
+abbrev pub glyph_of : ℕ → List ℕ → ℕ → Result ℕ Refusal
+glyph_of at s p = if is_name_byte (get_or s p 0) then Ok p else Err (no_glyph at s p)
 
-abbrev pub word_to : ℕ → ℕ → ℕ → ℕ → ℕ → List ℕ → ℕ → Command
-word_to track pa p q e s at = if leb e p then Refused 4 at else word_with track pa p e at (leb e q) (dummy_at s e)
+abbrev pub glyph_at : ℕ → List ℕ → ℕ → Result ℕ Refusal
+glyph_at at s i = glyph_of at s (run_end is_space s i)
+
+-- the dummy behind a word, which is followed by whitespace or the end
+abbrev pub followed : ℕ → List ℕ → Option Argument → Result (Option Argument) Refusal
+followed at s None = Ok None
+followed at s (Some d) = if white_next (drop d.next s) then Ok (Some d) else Err (refusal 4 at)
+
+abbrev pub dummy_at : ℕ → List ℕ → ℕ → Result (Option Argument) Refusal
+dummy_at at s e = and_then (perhaps_at at s e) (followed at s)
+
+-- its limit, and where it ends: at e where there is none
+abbrev pub dummy_near : Option Argument → Result Unit Refusal
+dummy_near None = Ok tt
+dummy_near (Some d) = near_of d
+
+abbrev pub dummy_end : ℕ → Option Argument → ℕ
+dummy_end e None = e
+dummy_end e (Some d) = d.next
+
+-- the word from p to e, whose bytes up to q are those of a name, with its number
+abbrev pub word_with : ℕ → ℕ → ℕ → ℕ → Argument → Option Argument → Result Command Refusal
+word_with at p q e track d =
+    and_then (near_of track) (λ x. and_then (dummy_near d) (λ y. and_then (clear_or (leb e q) at) (λ z. Ok (Word track.number p e (dummy_end e d)))))
+
+abbrev pub word_to : ℕ → List ℕ → ℕ → ℕ → ℕ → Argument → Result Command Refusal
+word_to at s p q e track = if leb e p then Err (refusal 4 at) else and_then (dummy_at at s e) (word_with at p q e track)
 
 -- the word from p on, whose bytes up to q are those of a name
-unfoldable pub word_from : ℕ → ℕ → ℕ → ℕ → List ℕ → ℕ → Command
-word_from track pa p q s at = word_to track pa p q (run_end is_not_white s q) s at
+abbrev pub word_from : ℕ → List ℕ → ℕ → ℕ → Argument → Result Command Refusal
+word_from at s p q track = word_to at s p q (run_end is_not_white s q) track

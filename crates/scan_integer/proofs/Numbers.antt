@@ -1,26 +1,22 @@
--- Digits and integers at a place, one place at a time, and in the form in which `search` applies them at a need.
-use Prim.Native.Nat.{ℕ, zero, suc, ◌+◌, ◌-◌, ◌*◌, ◌^◌, ◌≤◌, ◌<◌, min}
+-- Digits and integers at a place, one place at a time, and in the form in which the check applies them at a need.
+use Rattle.std.specs.Prelude.{Option, Some, None}
+use Prim.Native.Nat.{ℕ, zero, suc, ◌+◌, ◌-◌, ◌*◌, ◌≤◌, ◌<◌, min}
 use native.Mathlib.Omega.{arith}
 use native.Mathlib.Nat.{zero-add}
 use mathlib.Core.Bool.{Bool, true, false}
 use mathlib.Core.List.{List, [], ◌∷◌}
 use mathlib.Core.Path.{◌≡◌, refl, sym, ap, ◌∙◌}
-use borrow.Author.Rules.{rules}
 use borrow.Author.Tests.{eq-eqb, ne_eqb}
 use lib.Dec.{eqb}
 use lib.ListN.{length, drop, get_or, drop_of_length-le}
-use mir.Syntax.{w32, w64}
-use mir.Val.{Fits}
 use Rattle.rules.specs.Bytes.{span, is_digit, digits, value, signed, integer, moved}
 use Rattle.laws.proofs.Cases.{on}
 use Rattle.laws_scan.proofs.Walk.{cons_at}
 use Rattle.scan_lex.specs.At.{run_end}
-use Rattle.scan_lex.proofs.Runs.{run_on, run_off, run_out, inside}
+use Rattle.scan_lex.proofs.Runs.{run_on, inside}
 use Rattle.scan_integer.specs.At.{cut, number_of, integer_at}
 use Rattle.scan_integer.specs.Parts.{value_from, digits_at, signed_at}
-use Rattle.scan_integer.specs.declared.DigitRun.{DigitRun}
 use Rattle.scan_integer.specs.declared.Number.{Number}
-use Rattle.scan_integer.specs.declared.Number.TheVariants.{Value, Missing}
 
 -- ---- digits: some number has been read, and v is that number, cut
 
@@ -29,11 +25,11 @@ module _ (n : ℕ) (s : List ℕ) (i : ℕ) where
   unfolding value value_from
   value_on h e = rw (cons_at s i h, e)
 
-  value_off : i < length s → is_digit (get_or s i 0) ≡ false → value_from n s i ≡ n
+  pub value_off : i < length s → is_digit (get_or s i 0) ≡ false → value_from n s i ≡ n
   unfolding value value_from
   value_off h e = rw (cons_at s i h, e)
 
-  value_out : length s ≤ i → value_from n s i ≡ n
+  pub value_out : length s ≤ i → value_from n s i ≡ n
   unfolding value value_from
   value_out h = rw (drop_of_length-le s h)
 
@@ -55,15 +51,9 @@ module _ (s : List ℕ) (at i v : ℕ) (r : Read s at i v) where
     end = r.end ∙ run_on is_digit s i h (sym e ∙ f);
   }
 
-  pub read-stop : (t : Bool) → i < length s → t ≡ is_digit (get_or s i 0) → t ≡ false → record { value = v; next = i } ≡ digits_at s at
-  read-stop t h e f = rw (r.capped, r.rest, r.end, value_off r.number s i h (sym e ∙ f), run_off is_digit s i h (sym e ∙ f))
-
-  pub read_over : length s ≤ i → record { value = v; next = i } ≡ digits_at s at
-  read_over h = rw (r.capped, r.rest, r.end, value_out r.number s i h, run_out is_digit s i h)
-
 -- ---- an integer
 
-module _ (s : List ℕ) (at : ℕ) (d : DigitRun) (g : d ≡ digits_at s at) where
+module _ (s : List ℕ) (at : ℕ) (d : Number) (g : d ≡ digits_at s at) where
   size : d.value ≡ min (value 0 (drop at s)) 100000000
   unfolding value_from
   size = rw g
@@ -72,13 +62,7 @@ module _ (s : List ℕ) (at : ℕ) (d : DigitRun) (g : d ≡ digits_at s at) whe
   unfolding run_end
   end = rw g
 
-  pub signed-small : d.value ≤ 100000000
-  signed-small = omega (arith, size)
-
-  pub signed-fits : Fits w32 (100000000 + d.value)
-  signed-fits = omega (arith, size)
-
-  pub signed-missing : (negative : Bool) → d.next ≤ at → Missing ≡ signed_at negative s at
+  pub signed-missing : (negative : Bool) → d.next ≤ at → None ≡ signed_at negative s at
   unfolding signed_at
   signed-missing negative l = rw (eq-eqb (digits (drop at s)) 0 (omega (arith, end)))
 
@@ -86,27 +70,24 @@ module _ (s : List ℕ) (at : ℕ) (d : DigitRun) (g : d ≡ digits_at s at) whe
     some_digit : digits (drop at s) ≡ 0 → ⊥
     some_digit e = omega (arith, end)
 
-    pub signed-negative : negative ≡ true → Value (100000000 - d.value) d.next ≡ signed_at negative s at
+    pub signed-negative : negative ≡ true → Some (record { value = 100000000 - d.value; next = d.next }) ≡ signed_at negative s at
     unfolding signed_at
-    signed-negative n = rw (n, ne_eqb (digits (drop at s)) 0 some_digit, zero-add, end, size) (ap (λ (v : ℕ). Value v (at + digits (drop at s))) (omega arith))
+    signed-negative n = rw (n, ne_eqb (digits (drop at s)) 0 some_digit, zero-add, end, size) (ap (λ (v : ℕ). Some (record { value = v; next = at + digits (drop at s) })) (omega arith))
 
-    pub signed-plain : negative ≡ false → Value (100000000 + d.value) d.next ≡ signed_at negative s at
+    pub signed-plain : negative ≡ false → Some (record { value = 100000000 + d.value; next = d.next }) ≡ signed_at negative s at
     unfolding signed_at
-    signed-plain n = rw (n, ne_eqb (digits (drop at s)) 0 some_digit, zero-add, end, size) (ap (λ (v : ℕ). Value v (at + digits (drop at s))) (omega arith))
+    signed-plain n = rw (n, ne_eqb (digits (drop at s)) 0 some_digit, zero-add, end, size) (ap (λ (v : ℕ). Some (record { value = v; next = at + digits (drop at s) })) (omega arith))
 
 behind-minus : (m : Bool) (at : ℕ) (r : List ℕ) → number_of at (signed m 1 r) ≡ number_of (at + 1) (signed m 0 r)
 behind-minus m at r =
-    on (eqb (digits r) 0) (λ e. rw e) (λ e. rw e (ap (Value (cut (moved (record { neg = m; mag = value 0 r })))) (omega arith)))
+    on (eqb (digits r) 0) (λ e. rw e) (λ e. rw e (ap (λ (i : ℕ). Some (record { value = cut (moved (record { neg = m; mag = value 0 r })); next = i })) (omega arith)))
 
-module _ (s : List ℕ) (at b : ℕ) (q : Number) (p : b ≡ get_or s at 0) where
+module _ (s : List ℕ) (at b : ℕ) (q : Option Number) (p : b ≡ get_or s at 0) where
   pub integer-negative : b ≡ 45 → q ≡ signed_at true s (at + 1) → q ≡ integer_at s at
   unfolding integer_at integer signed_at
   integer-negative e f =
       let h : at < length s = inside s at 44 (sym p ∙ e) in
       rw (f, cons_at s at h, ← p, e) (sym (behind-minus true at (drop (at + 1) s)))
-
-pub behind_sign : (s : List ℕ) (at b : ℕ) → b ≡ get_or s at 0 → b ≡ 45 → length s < 2 ^ 64 → Fits w64 (at + 1)
-behind_sign s at b p e h = omega (arith, inside s at 44 (sym p ∙ e))
 
 integer-first : (s : List ℕ) (at : ℕ) → (get_or s at 0 ≡ 45 → ⊥) → integer (drop at s) ≡ signed false 0 (drop at s)
 unfolding integer span
@@ -115,8 +96,10 @@ integer-first [] (suc at) n = refl
 integer-first (a ∷ s) zero n = rw (ne_eqb a 45 n)
 integer-first (a ∷ s) (suc at) n = integer-first s at n
 
-pub integer-plain : (s : List ℕ) (at b : ℕ) (q : Number) → b ≡ get_or s at 0 → (b ≡ 45 → ⊥) → q ≡ signed_at false s at → q ≡ integer_at s at
+pub integer-plain : (s : List ℕ) (at b : ℕ) (q : Option Number) → b ≡ get_or s at 0 → (b ≡ 45 → ⊥) → q ≡ signed_at false s at → q ≡ integer_at s at
 unfolding integer_at signed_at
 integer-plain s at b q p n f = rw (f, integer-first s at (λ e. n (p ∙ e)))
 
-pub ruleset numbers = (read_none, read_more, read-stop, read_over, signed-small, signed-fits, signed-missing, signed-negative, signed-plain, behind_sign, integer-negative, integer-plain, rules)
+pub ruleset reading = (value_off, value_out, read_none, read_more)
+
+pub ruleset numbers = (signed-missing, signed-negative, signed-plain, integer-negative, integer-plain)

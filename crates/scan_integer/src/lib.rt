@@ -7,14 +7,9 @@ ghost use Rattle.rules.specs.Bytes.{within, near};
 ghost use Rattle.scan_integer.specs.At.{integer_at};
 ghost use Rattle.scan_integer.specs.Parts.{digits_at, signed_at};
 
+// A number, and the place behind its last digit.
 #[derive(Clone, Copy)]
-pub enum Number {
-    Missing,
-    Value { value: u32, next: usize },
-}
-
-#[derive(Clone, Copy)]
-pub struct DigitRun {
+pub struct Number {
     pub value: u32,
     pub next: usize,
 }
@@ -22,7 +17,7 @@ pub struct DigitRun {
 pub fn digit_of(b: u8) -> u32
     ensures { result ≡ b - 48 }
 {
-    if b < 48 { 0 } else { (b - 48) as u32 }
+    b.saturating_sub(48) as u32
 }
 
 // The number with one more digit, cut at 100,000,000.
@@ -32,16 +27,13 @@ fn with_digit(value: u32, b: u8) -> u32
     if 10_000_000 <= value {
         return 100_000_000;
     }
-    let next = value * 10 + digit_of(b);
-    if next < 100_000_000 {
-        next
-    } else {
-        100_000_000
-    }
+    (value * 10 + digit_of(b)).min(100_000_000)
 }
 
-// The number that the digits at a place say, cut at 100,000,000, and the place behind them.
-pub fn digits(s: &[u8], at: usize) -> DigitRun
+// The number that the digits at a place say, cut at 100,000,000, and the place behind them. The place is answered, so it is counted:
+// an iterator would come beside that count.
+#[tactic(auto, using(crate::proofs::Numbers::reading, scan_lex::proofs::Runs::run_off, scan_lex::proofs::Runs::run_out))]
+pub fn digits(s: &[u8], at: usize) -> Number
     ensures { result ≡ digits_at s.now at }
 {
     let mut value: u32 = 0;
@@ -50,33 +42,29 @@ pub fn digits(s: &[u8], at: usize) -> DigitRun
         value = with_digit(value, s[i]);
         i += 1;
     }
-    DigitRun { value, next: i }
+    Number { value, next: i }
 }
 
 // The digits at a place as a number, negative or not.
-fn signed(s: &[u8], at: usize, negative: bool) -> Number
+#[tactic(auto, using(crate::proofs::Numbers::numbers))]
+fn signed(s: &[u8], at: usize, negative: bool) -> Option<Number>
     ensures { result ≡ signed_at negative s.now at }
 {
-    let d = digits(s, at);
-    let value = d.value;
-    let next = d.next;
+    let Number { value, next } = digits(s, at);
     if next <= at {
-        return Number::Missing;
+        return None;
     }
-    if negative {
-        return Number::Value {
-            value: 100_000_000 - value,
-            next,
-        };
-    }
-    Number::Value {
-        value: 100_000_000 + value,
-        next,
-    }
+    let value = if negative {
+        100_000_000 - value
+    } else {
+        100_000_000 + value
+    };
+    Some(Number { value, next })
 }
 
 // The integer at a place.
-pub fn integer(s: &[u8], at: usize) -> Number
+#[tactic(auto, using(crate::proofs::Numbers::numbers))]
+pub fn integer(s: &[u8], at: usize) -> Option<Number>
     ensures { result ≡ integer_at s.now at }
 {
     if scan_lex::byte_at(s, at) == 45 {
@@ -90,19 +78,19 @@ pub fn integer(s: &[u8], at: usize) -> Number
 pub fn is_within(lo: u32, hi: u32, n: u32) -> bool
     ensures { result ≡ within lo hi n }
 {
-    (lo <= n) & (n <= hi)
+    (lo..=hi).contains(&n)
 }
 
 // The same for the general limit.
 pub fn is_near(n: u32) -> bool
     ensures { result ≡ near n }
 {
-    (1 <= n) & (n <= 199_999_999)
+    is_within(1, 199_999_999, n)
 }
 
 // A number as itself, 0 where it is negative.
 pub fn unmoved(n: u32) -> u32
     ensures { result ≡ n - 100000000 }
 {
-    if n < 100_000_000 { 0 } else { n - 100_000_000 }
+    n.saturating_sub(100_000_000)
 }

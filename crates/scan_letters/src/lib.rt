@@ -74,7 +74,7 @@ pub enum Control {
 pub fn byte_of(k: u32) -> u8
     ensures { result ≡ byte_of k }
 {
-    if k < 256 { k as u8 } else { 0 }
+    u8::try_from(k).unwrap_or(0)
 }
 
 // The letters of `D`.

@@ -1,34 +1,16 @@
 -- Names by the bytes that may stand in them (2026-06): a string is clear where these bytes reach up to its end.
-use Prim.Native.Nat.{ℕ, suc, ◌+◌, ◌-◌, ◌≤◌, ◌<◌}
+use Prim.Native.Nat.{ℕ, suc, ◌+◌, ◌-◌}
 use native.Mathlib.Omega.{arith}
-use mathlib.Core.Bool.{not, ◌&&◌, and-false}
+use mathlib.Core.Bool.{◌&&◌, and-false}
 use mathlib.Core.List.{List, [], ◌∷◌}
-use mathlib.Core.Path.{◌≡◌, refl, sym, ap, ◌∙◌}
-use borrow.Author.Rules.{rules}
-use borrow.Author.Tests.{le-leb, lt-leb, leb-true, leb-false, ltb-true, ltb-false, ne_eqb}
-use lib.Dec.{eqb, ltb, leb, leb-suc-suc, eqb-suc-suc}
+use mathlib.Core.Path.{◌≡◌, refl, ap}
+use borrow.Author.Tests.{le-leb, lt-leb, leb-true, leb-false, ne_eqb}
+use lib.Dec.{eqb, leb, leb-suc-suc, eqb-suc-suc}
 use lib.ListN.{length, take, drop}
 use lib.Seq.{drop-drop}
-use Rattle.rules.specs.Bytes.{span, is_white, is_not_white, is_barred, is_clear}
-use Rattle.laws.proofs.Cases.{on, no}
+use Rattle.rules.specs.Bytes.{span, is_not_white, is_barred, is_clear}
+use Rattle.laws.proofs.Cases.{on}
 use Rattle.scan_lex.specs.At.{run_end, is_name_byte}
-
--- ---- one byte
-
-pub name_byte : (b : ℕ) → (ltb 32 b && not (eqb b 127)) ≡ is_name_byte b
-name_byte b =
-    on (ltb 32 b)
-    (λ h.
-    let l : 32 < b = ltb-true 32 b h in
-    rw (h, ne_eqb b 32 (λ e. omega arith), ne_eqb b 9 (λ e. omega arith), ne_eqb b 10 (λ e. omega arith), lt-leb b 8 (omega arith), lt-leb b 31 (omega arith), and-false (leb 11 b)))
-    (λ h.
-    let l : b ≤ 32 = ltb-false 32 b h in
-    rw h
-    (on (is_white b)
-    (λ w. rw w)
-    (λ w.
-    let n : (b ≡ 32 → ⊥) × (b ≡ 9 → ⊥) × (b ≡ 10 → ⊥) = (λ e. no (sym w ∙ rw e), λ e. no (sym w ∙ rw e), λ e. no (sym w ∙ rw e)) in
-    on (leb b 8) (λ k. rw (w, k)) (λ k. rw (w, k, le-leb 11 b (omega (arith, leb-false b 8 k, n)), le-leb b 31 (omega (arith, n)))))))
 
 -- ---- a string
 
@@ -78,5 +60,3 @@ module _ (s : List ℕ) (p q e : ℕ) (g : q ≡ run_end is_name_byte s p) (h : 
       (λ l. rw (l, le-leb (span is_not_white (drop p s)) (span is_name_byte (drop p s)) (omega (arith, leb-true e q l, string_ends))))
       (λ l. rw (l, lt-leb (span is_not_white (drop p s)) (span is_name_byte (drop p s)) (omega (arith, leb-false e q l, string_ends))))
       )
-
-pub ruleset names = (name_byte, rules)

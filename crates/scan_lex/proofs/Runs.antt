@@ -1,11 +1,12 @@
--- Runs of bytes and line breaks at a place, one place at a time, and in the form in which `search` applies them at a need.
+-- Runs of bytes and line breaks at a place, one place at a time, and in the form in which the check applies them at a need.
+use Rattle.std.specs.Prelude.{if◌then◌else◌}
 use Prim.Native.Nat.{ℕ, zero, suc, ◌+◌, ◌≤◌, ◌<◌, suc-le-suc}
 use native.Mathlib.Omega.{arith}
 use mathlib.Core.Bool.{Bool, true, false, ◌||◌}
 use mathlib.Core.List.{List, [], ◌∷◌}
 use mathlib.Core.Path.{◌≡◌, refl, sym, ◌∙◌}
-use borrow.Author.Rules.{rules}
-use lib.Dec.{eqb}
+use borrow.Author.Tests.{ltb-true, ltb-false}
+use lib.Dec.{eqb, ltb}
 use lib.ListN.{length, drop, get_or, length-drop, drop_of_length-le, get_or-eq_default}
 use lib.Seq.{drop-drop}
 use Rattle.rules.specs.Bytes.{is, span, is_space, spacer, unspaced}
@@ -78,10 +79,9 @@ module _ (s : List ℕ) (at i : ℕ) (p : i ≡ run_end is_space s at) where
   unfolding breaks_at
   ends_at = ends_unspaced (drop at s) ∙ rw (unspaced_at s at, p)
 
-  pub break_byte : i < length s → (eqb (get_or s i 0) 10 || eqb (get_or s i 0) 35) ≡ breaks_at s at
-  break_byte h = sym (ends_at ∙ rw (cons_at s i h))
-
-  pub break_end : length s ≤ i → true ≡ breaks_at s at
-  break_end h = sym (ends_at ∙ rw (drop_of_length-le s h))
-
-pub ruleset runs = (past_end, run_more, run-stop, run_over, break_byte, break_end, rules)
+pub breaks_is : (s : List ℕ) (at : ℕ) → breaks_at s at ≡ (if ltb (run_end is_space s at) (length s) then (eqb (get_or s (run_end is_space s at) 0) 10 || eqb (get_or s (run_end is_space s at) 0) 35) else true)
+breaks_is s at =
+    let i : ℕ = run_end is_space s at in
+    on (ltb i (length s))
+    (λ e. ends_at s at i refl ∙ rw (e, cons_at s i (ltb-true i (length s) e)))
+    (λ e. ends_at s at i refl ∙ rw (e, drop_of_length-le s (ltb-false i (length s) e)))

@@ -2,7 +2,7 @@
 // "Bytes, spaces, numbers").
 #![tactic(auto)]
 
-ghost use Rattle.std.specs.Prelude.{◌≡◌, get_or};
+ghost use Rattle.std.specs.Prelude.{◌≡◌, ◌<◌, ℕ, Bool, get_or};
 ghost use Rattle.rules.specs.Bytes.{same, is_space, is_white, is_not_white, is_not_newline, is_digit};
 ghost use Rattle.rules.specs.Widths.{is_list_name};
 ghost use Rattle.scan_lex.specs.At.{run_end, is_name_byte, blank_at, breaks_at};
@@ -10,89 +10,88 @@ ghost use Rattle.scan_lex.specs.At.{run_end, is_name_byte, blank_at, breaks_at};
 fn is_space(b: u8) -> bool
     ensures { result ≡ is_space b }
 {
-    (b == 32) | (b == 9)
+    matches!(b, b' ' | b'\t')
 }
 
 pub fn is_white(b: u8) -> bool
     ensures { result ≡ is_white b }
 {
-    (b == 32) | (b == 9) | (b == 10)
+    matches!(b, b' ' | b'\t' | b'\n')
 }
 
 pub fn is_digit(b: u8) -> bool
     ensures { result ≡ is_digit b }
 {
-    (48 <= b) & (b <= 57)
+    b.is_ascii_digit()
 }
 
 // The byte at a place, 0 past the end.
 pub fn byte_at(s: &[u8], at: usize) -> u8
     ensures { result ≡ get_or s.now at 0 }
 {
-    if at < s.len() { s[at] } else { 0 }
+    s.get(at).copied().unwrap_or(0)
+}
+
+// The end of the bytes from a place on that pass a test. The reader spends its time here, so this counts the place: by `get` and
+// `take_while` each call took six machine instructions more.
+#[inline(always)]
+fn run_end<P: Fn(u8) -> bool>(s: &[u8], at: usize, passes: P) -> usize
+    requires { P.IsAlwaysCallable passes }
+    ensures { (p : ℕ → Bool) → ((b : ℕ) (t : Bool) → b < 256 → P.post passes b t → t ≡ p b) → result ≡ run_end p s.now at }
+{
+    let mut i = at;
+    while i < s.len() && passes(s[i]) {
+        i += 1;
+    }
+    i
 }
 
 pub fn spacer_end(s: &[u8], at: usize) -> usize
     ensures { result ≡ run_end is_space s.now at }
 {
-    let mut i = at;
-    while i < s.len() && is_space(s[i]) {
-        i += 1;
-    }
-    i
+    run_end(s, at, is_space)
 }
 
 fn is_not_white(b: u8) -> bool
     ensures { result ≡ is_not_white b }
 {
-    !((b == 32) | (b == 9) | (b == 10))
+    !is_white(b)
 }
 
 fn is_not_newline(b: u8) -> bool
     ensures { result ≡ is_not_newline b }
 {
-    !(b == 10)
+    b != b'\n'
 }
 
 pub fn string_end(s: &[u8], at: usize) -> usize
     ensures { result ≡ run_end is_not_white s.now at }
 {
-    let mut i = at;
-    while i < s.len() && is_not_white(s[i]) {
-        i += 1;
-    }
-    i
+    run_end(s, at, is_not_white)
 }
 
 // Whether a byte may stand in a name. Bytes below 32 are barred or whitespace.
 pub fn is_name_byte(b: u8) -> bool
     ensures { result ≡ is_name_byte b }
 {
-    (32 < b) & !(b == 127)
+    (b' ' < b) & (b != 127)
 }
 
 // The end of the bytes that may stand in a name: where a string has no barred byte, it is the string's end.
 pub fn name_end(s: &[u8], at: usize) -> usize
     ensures { result ≡ run_end is_name_byte s.now at }
 {
-    let mut i = at;
-    while i < s.len() && is_name_byte(s[i]) {
-        i += 1;
-    }
-    i
+    run_end(s, at, is_name_byte)
 }
 
 pub fn line_end(s: &[u8], at: usize) -> usize
     ensures { result ≡ run_end is_not_newline s.now at }
 {
-    let mut i = at;
-    while i < s.len() && is_not_newline(s[i]) {
-        i += 1;
-    }
-    i
+    run_end(s, at, is_not_newline)
 }
 
 // The place behind a byte of whitespace or a comment, the place itself where neither stands.
+#[tactic(auto, using(crate::proofs::Texts::blank_is))]
 pub fn blank_end(s: &[u8], at: usize) -> usize
     ensures { result ≡ blank_at s.now at }
 {
@@ -100,46 +99,32 @@ pub fn blank_end(s: &[u8], at: usize) -> usize
     if is_white(b) {
         return at + 1;
     }
-    if b == 35 {
+    if b == b'#' {
         return line_end(s, at + 1);
     }
     at
 }
 
 // Whether two runs of bytes are equal.
+#[tactic(auto, using(crate::proofs::Texts::same_is))]
 pub fn same_bytes(a: &[u8], b: &[u8]) -> bool
     ensures { result ≡ same a.now b.now }
 {
-    if a.len() == b.len() {
-        let mut i = 0;
-        while i < a.len() {
-            if a[i] == b[i] {
-                i += 1;
-            } else {
-                return false;
-            }
-        }
-        true
-    } else {
-        false
-    }
+    a == b
 }
 
 // Whether a text is a name of a list: 1 to 64 bytes, none of them whitespace or barred.
+#[tactic(auto, using(crate::proofs::Texts::list_name_is))]
 pub fn is_list_name(t: &[u8]) -> bool
     ensures { result ≡ is_list_name t.now }
 {
-    let n = name_end(t, 0);
-    (0 < t.len()) & ((t.len() <= 64) & (n == t.len()))
+    !t.is_empty() && t.len() <= 64 && name_end(t, 0) == t.len()
 }
 
+#[tactic(auto, using(crate::proofs::Runs::breaks_is))]
 pub fn breaks(s: &[u8], at: usize) -> bool
     ensures { result ≡ breaks_at s.now at }
 {
     let i = spacer_end(s, at);
-    if i < s.len() {
-        (s[i] == 10) | (s[i] == 35)
-    } else {
-        true
-    }
+    s.get(i).map_or(true, |b| matches!(*b, b'\n' | b'#'))
 }

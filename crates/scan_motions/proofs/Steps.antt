@@ -1,97 +1,65 @@
--- Commands of one integer, of two that are ignored, and of none: the answer of each return, in the form in which `search` applies it.
-use Rattle.std.specs.Prelude.{if◌then◌else◌}
-use Prim.Native.Nat.{ℕ, ◌+◌}
+-- Commands of one integer, of two that are ignored, and of none, by what their arguments are.
+use Rattle.std.specs.Prelude.{Ok}
+use Prim.Native.Nat.{ℕ, ◌+◌, ◌-◌}
 use native.Mathlib.Omega.{arith}
 use native.Mathlib.Nat.{add-zero}
-use mathlib.Core.Bool.{Bool, true, false}
 use mathlib.Core.List.{List, [], ◌∷◌}
-use mathlib.Core.Path.{◌≡◌, refl, sym, ◌∙◌}
-use borrow.Author.Rules.{rules}
+use mathlib.Core.Path.{◌≡◌, refl, ◌∙◌}
 use lib.ListN.{drop}
-use Rattle.rules.specs.Bytes.{near, Nums, integers}
-use Rattle.rules.specs.Act.{across, down, to, by, page, font, size, break, just}
+use Rattle.rules.specs.Bytes.{origin}
+use Rattle.rules.specs.Act.{Act, across, down, break, just}
 use Rattle.rules.specs.Letters.{draft, ignoring}
 use Rattle.rules.specs.Scan.{letter, is_small}
+use Rattle.rules.specs.Answers.{and_then}
 use Rattle.laws.proofs.Cases.{on}
 use Rattle.scan_command.specs.View.{draft_of, letter_at}
-use Rattle.scan_command.specs.declared.Command.{Command}
-use Rattle.scan_command.specs.declared.Command.TheVariants.{Break, Space, Refused}
-use Rattle.scan_command.proofs.Shift.{shifted}
-use Rattle.scan_arguments.specs.At.{two_at}
-use Rattle.scan_arguments.specs.declared.Two.{Two}
-use Rattle.scan_arguments.specs.declared.Two.TheVariants as B
-use Rattle.scan_arguments.proofs.Nums.{TwoNums}
-use Rattle.scan_close.proofs.Places.{two_shape, short_back, nums_back, judged_at, cut_small}
-use Rattle.scan_close.proofs.Arguments.{Form, one_wrong, one_good, good_least}
-
--- ---- one integer: `H` `V` `h` `v` `p` `f` `s`
-
-pub form_to_h : Form 72 (to across) 1 199999999
-unfolding letter
-form_to_h = record { reads = λ r. refl; limit = λ n. refl; nameless = λ n. refl; below = omega arith }
-
-pub form_to_v : Form 86 (to down) 1 199999999
-unfolding letter
-form_to_v = record { reads = λ r. refl; limit = λ n. refl; nameless = λ n. refl; below = omega arith }
-
-pub form_by_h : Form 104 (by across) 1 199999999
-unfolding letter
-form_by_h = record { reads = λ r. refl; limit = λ n. refl; nameless = λ n. refl; below = omega arith }
-
-pub form_by_v : Form 118 (by down) 1 199999999
-unfolding letter
-form_by_v = record { reads = λ r. refl; limit = λ n. refl; nameless = λ n. refl; below = omega arith }
-
-pub form_page : Form 112 page 1 199999999
-unfolding letter
-form_page = record { reads = λ r. refl; limit = λ n. refl; nameless = λ n. refl; below = omega arith }
-
-pub form_font : Form 102 font 100000000 100000255
-unfolding letter
-form_font = record { reads = λ r. refl; limit = λ n. refl; nameless = λ n. refl; below = omega arith }
-
-pub form_size : Form 115 size 100000001 199999999
-unfolding letter
-form_size = record { reads = λ r. refl; limit = λ n. refl; nameless = λ n. refl; below = omega arith }
-
--- ---- two integers that are ignored: `n`
+use Rattle.scan_command.specs.declared.Axis.{Axis}
+use Rattle.scan_command.specs.declared.Axis.TheVariants.{Across, Down}
+use Rattle.scan_command.specs.declared.Command.TheVariants.{To, By, Page, Font, Size, Break, Space}
+use Rattle.scan_arguments.specs.At.{due_at, near_of}
+use Rattle.scan_close.specs.Closed.{argument_at}
+use Rattle.scan_close.proofs.Places.{two_due, judged_at, cut_small}
+use Rattle.scan_close.proofs.Arguments.{one_is}
+use Rattle.scan_motions.specs.Letters.{to_letter, by_letter}
 
 module _ (s : List ℕ) (at : ℕ) where
-  abbrev broken : Two → Command
-  broken B.Short = Refused 4 at
-  broken (B.Read a b pa pb n) = if near a then (if near b then Break n else Refused 6 pb) else Refused 6 pa
+  -- ---- one integer: `H` `V` `h` `v` `p` `f` `s`
 
-  two_by : (x : Nums) (r : List ℕ) (q : Two) → TwoNums s (shifted at x) q → draft_of at (ignoring (draft (just break) [] [] 0 1 r) x) ≡ broken q
-  two_by x r B.Short h = rw (short_back at x h, add-zero)
-  two_by x r (B.Read a b pa pb n) h =
-      let d = nums_back at x (h.first ∷ h.second ∷ []) (pa ∷ pb ∷ []) n (drop n s) h.are in
-      rw (d.are, h.size1, h.size2, cut_small h.first, cut_small h.second)
-      (judged_at at (just break) 0 d.end (is_small h.first ∷ is_small h.second ∷ []) d.places (pa ∷ pb ∷ []) d.from (omega arith)
-      ∙ rw d.to (on (is_small h.first) (λ v. rw v (on (is_small h.second) (λ w. rw w) (λ w. rw w))) (λ v. rw v)))
+  pub to_is : (x : Axis) → letter_at (to_letter x) s at ≡ and_then (argument_at 1 199999999 s at) (λ a. Ok (To x a.number a.next))
+  unfolding letter
+  to_is Across = one_is s at 72 (Act.to across) 1 199999999 (record { reads = λ r. refl; limit = λ n. refl; nameless = λ n. refl; below = omega arith })
+  to_is Down = one_is s at 86 (Act.to down) 1 199999999 (record { reads = λ r. refl; limit = λ n. refl; nameless = λ n. refl; below = omega arith })
 
-  two_is : letter_at 110 s at ≡ broken (two_at s (at + 1))
+  pub by_is : (x : Axis) → letter_at (by_letter x) s at ≡ and_then (argument_at 1 199999999 s at) (λ a. Ok (By x a.number a.next))
+  unfolding letter
+  by_is Across = one_is s at 104 (Act.by across) 1 199999999 (record { reads = λ r. refl; limit = λ n. refl; nameless = λ n. refl; below = omega arith })
+  by_is Down = one_is s at 118 (Act.by down) 1 199999999 (record { reads = λ r. refl; limit = λ n. refl; nameless = λ n. refl; below = omega arith })
+
+  pub page_is : letter_at 112 s at ≡ and_then (argument_at 1 199999999 s at) (λ a. Ok (Page a.number a.next))
+  unfolding letter
+  page_is = one_is s at 112 Act.page 1 199999999 (record { reads = λ r. refl; limit = λ n. refl; nameless = λ n. refl; below = omega arith })
+
+  pub font_is : letter_at 102 s at ≡ and_then (argument_at 100000000 100000255 s at) (λ a. Ok (Font (a.number - origin) a.next))
+  unfolding letter
+  font_is = one_is s at 102 Act.font 100000000 100000255 (record { reads = λ r. refl; limit = λ n. refl; nameless = λ n. refl; below = omega arith })
+
+  pub size_is : letter_at 115 s at ≡ and_then (argument_at 100000001 199999999 s at) (λ a. Ok (Size (a.number - origin) a.next))
+  unfolding letter
+  size_is = one_is s at 115 Act.size 100000001 199999999 (record { reads = λ r. refl; limit = λ n. refl; nameless = λ n. refl; below = omega arith })
+
+  -- ---- two integers that are ignored: `n`
+
+  pub break_is : letter_at 110 s at ≡ and_then (due_at at s (at + 1)) (λ a. and_then (due_at at s a.next) (λ b. and_then (near_of a) (λ y. and_then (near_of b) (λ z. Ok (Break b.next)))))
   unfolding letter_at letter
-  two_is = two_by (integers 2 1 (drop (at + 1) s)) (drop (at + 1) s) (two_at s (at + 1)) (two_shape s at 1)
+  break_is =
+      two_due at s 1 (λ x r. draft_of at (ignoring (draft (just break) [] [] 0 1 (drop (at + 1) s)) x) ≡ r) (rw add-zero) (λ a b. and_then (near_of a) (λ y. and_then (near_of b) (λ z. Ok (Break b.next))))
+      (λ a b m n x g h d.
+      rw (d.are, g, h, cut_small m, cut_small n)
+      (judged_at at (just break) 0 d.end (is_small m ∷ is_small n ∷ []) d.places (a.place ∷ b.place ∷ []) d.from (omega arith)
+      ∙ rw d.to (on (is_small m) (λ v. rw v (on (is_small n) (λ w. rw w) (λ w. rw w))) (λ v. rw v))))
 
-module _ (s : List ℕ) (at : ℕ) (q : Two) (g : q ≡ two_at s (at + 1)) where
-  pub break_short : q ≡ B.Short → Refused 4 at ≡ letter_at 110 s at
-  break_short h = sym (two_is s at ∙ rw (← g, h))
+  -- ---- `w`
 
-  module _ (a b pa pb n : ℕ) (h : q ≡ B.Read a b pa pb n) (t : Bool) (v : t ≡ near a) where
-    pub break-first : t ≡ false → Refused 6 pa ≡ letter_at 110 s at
-    break-first f = sym (two_is s at ∙ rw (← g, h, ← v, f))
-
-    module _ (f : t ≡ true) (u : Bool) (w : u ≡ near b) where
-      pub break_second : u ≡ false → Refused 6 pb ≡ letter_at 110 s at
-      break_second e = sym (two_is s at ∙ rw (← g, h, ← v, f, ← w, e))
-
-      pub break_good : u ≡ true → Break n ≡ letter_at 110 s at
-      break_good e = sym (two_is s at ∙ rw (← g, h, ← v, f, ← w, e))
-
--- ---- `w`
-
-pub space_is : (s : List ℕ) (at : ℕ) → Space (at + 1) ≡ letter_at 119 s at
-unfolding letter_at letter
-space_is s at = refl
-
-pub ruleset steps = (form_to_h, form_to_v, form_by_h, form_by_v, form_page, form_font, form_size, one_wrong, one_good, good_least, break_short, break-first, break_second, break_good, space_is, rules)
+  pub space_is : letter_at 119 s at ≡ Ok (Space (at + 1))
+  unfolding letter_at letter
+  space_is = refl

@@ -5,165 +5,82 @@
 
 ghost use Rattle.std.specs.Prelude.{◌≡◌, ◌<◌, length};
 ghost use Rattle.scan_command.specs.View.{letter_at};
+ghost use Rattle.scan_motions.specs.Letters.{to_letter, by_letter};
 
-use scan_arguments::Two;
-use scan_close::Argument;
-use scan_command::Command;
+use rules::Refusal;
+use scan_arguments::Argument;
+use scan_command::{Axis, Command};
 
-// `H`
-pub fn to_h(s: &[u8], at: usize) -> Command
+// `H`, `V`
+#[tactic(auto, using(crate::proofs::Steps::to_is))]
+pub fn to(s: &[u8], at: usize, axis: Axis) -> Result<Command, Refusal>
     requires { at < length s.now }
-    ensures { result ≡ letter_at 72 s.now at }
+    ensures { result ≡ letter_at (to_letter axis) s.now at }
 {
-    match scan_close::near_at(s, at) {
-        Argument::Wrong { refusal, place } => Command::Refused {
-            number: refusal,
-            place,
-        },
-        Argument::Good { number, next } => Command::To {
-            axis: 0,
-            number,
-            next,
-        },
-    }
+    let Argument { number, next, .. } = scan_close::near_at(s, at)?;
+    Ok(Command::To { axis, number, next })
 }
 
-// `V`
-pub fn to_v(s: &[u8], at: usize) -> Command
+// `h`, `v`
+#[tactic(auto, using(crate::proofs::Steps::by_is))]
+pub fn by(s: &[u8], at: usize, axis: Axis) -> Result<Command, Refusal>
     requires { at < length s.now }
-    ensures { result ≡ letter_at 86 s.now at }
+    ensures { result ≡ letter_at (by_letter axis) s.now at }
 {
-    match scan_close::near_at(s, at) {
-        Argument::Wrong { refusal, place } => Command::Refused {
-            number: refusal,
-            place,
-        },
-        Argument::Good { number, next } => Command::To {
-            axis: 1,
-            number,
-            next,
-        },
-    }
-}
-
-// `h`
-pub fn by_h(s: &[u8], at: usize) -> Command
-    requires { at < length s.now }
-    ensures { result ≡ letter_at 104 s.now at }
-{
-    match scan_close::near_at(s, at) {
-        Argument::Wrong { refusal, place } => Command::Refused {
-            number: refusal,
-            place,
-        },
-        Argument::Good { number, next } => Command::By {
-            axis: 0,
-            number,
-            next,
-        },
-    }
-}
-
-// `v`
-pub fn by_v(s: &[u8], at: usize) -> Command
-    requires { at < length s.now }
-    ensures { result ≡ letter_at 118 s.now at }
-{
-    match scan_close::near_at(s, at) {
-        Argument::Wrong { refusal, place } => Command::Refused {
-            number: refusal,
-            place,
-        },
-        Argument::Good { number, next } => Command::By {
-            axis: 1,
-            number,
-            next,
-        },
-    }
+    let Argument { number, next, .. } = scan_close::near_at(s, at)?;
+    Ok(Command::By { axis, number, next })
 }
 
 // `p`
-pub fn page(s: &[u8], at: usize) -> Command
+#[tactic(auto, using(crate::proofs::Steps::page_is))]
+pub fn page(s: &[u8], at: usize) -> Result<Command, Refusal>
     requires { at < length s.now }
     ensures { result ≡ letter_at 112 s.now at }
 {
-    match scan_close::near_at(s, at) {
-        Argument::Wrong { refusal, place } => Command::Refused {
-            number: refusal,
-            place,
-        },
-        Argument::Good { number, next } => Command::Page { number, next },
-    }
+    let Argument { number, next, .. } = scan_close::near_at(s, at)?;
+    Ok(Command::Page { number, next })
 }
 
 // `f`: a position from 0 to 255
-pub fn font(s: &[u8], at: usize) -> Command
+#[tactic(auto, using(crate::proofs::Steps::font_is))]
+pub fn font(s: &[u8], at: usize) -> Result<Command, Refusal>
     requires { at < length s.now }
     ensures { result ≡ letter_at 102 s.now at }
 {
-    match scan_close::argument_at(s, at, 100_000_000, 100_000_255) {
-        Argument::Wrong { refusal, place } => Command::Refused {
-            number: refusal,
-            place,
-        },
-        Argument::Good { number, next } => Command::Font {
-            position: number - 100_000_000,
-            next,
-        },
-    }
+    let Argument { number, next, .. } = scan_close::argument_at(s, at, 100_000_000, 100_000_255)?;
+    let position = scan_integer::unmoved(number);
+    Ok(Command::Font { position, next })
 }
 
 // `s`: a size of at least 1
-pub fn size(s: &[u8], at: usize) -> Command
+#[tactic(auto, using(crate::proofs::Steps::size_is))]
+pub fn size(s: &[u8], at: usize) -> Result<Command, Refusal>
     requires { at < length s.now }
     ensures { result ≡ letter_at 115 s.now at }
 {
-    match scan_close::argument_at(s, at, 100_000_001, 199_999_999) {
-        Argument::Wrong { refusal, place } => Command::Refused {
-            number: refusal,
-            place,
-        },
-        Argument::Good { number, next } => Command::Size {
-            size: number - 100_000_000,
-            next,
-        },
-    }
+    let Argument { number, next, .. } = scan_close::argument_at(s, at, 100_000_001, 199_999_999)?;
+    let size = scan_integer::unmoved(number);
+    Ok(Command::Size { size, next })
 }
 
 // `n`: two integers that are ignored
-pub fn line_break(s: &[u8], at: usize) -> Command
+#[tactic(auto, using(crate::proofs::Steps::break_is))]
+pub fn line_break(s: &[u8], at: usize) -> Result<Command, Refusal>
     requires { at < length s.now }
     ensures { result ≡ letter_at 110 s.now at }
 {
-    match scan_arguments::two_at(s, at + 1) {
-        Two::Short => Command::Refused {
-            number: 4,
-            place: at,
-        },
-        Two::Read { a, b, pa, pb, next } => {
-            if scan_integer::is_near(a) {
-                if scan_integer::is_near(b) {
-                    Command::Break { next }
-                } else {
-                    Command::Refused {
-                        number: 6,
-                        place: pb,
-                    }
-                }
-            } else {
-                Command::Refused {
-                    number: 6,
-                    place: pa,
-                }
-            }
-        }
-    }
+    let a = scan_arguments::due_at(s, at, at + 1)?;
+    let b = scan_arguments::due_at(s, at, a.next)?;
+    a.near()?;
+    b.near()?;
+    Ok(Command::Break { next: b.next })
 }
 
 // `w`
-pub fn space(s: &[u8], at: usize) -> Command
+#[tactic(auto, using(crate::proofs::Steps::space_is))]
+pub fn space(s: &[u8], at: usize) -> Result<Command, Refusal>
     requires { at < length s.now }
     ensures { result ≡ letter_at 119 s.now at }
 {
-    Command::Space { next: at + 1 }
+    Ok(Command::Space { next: at + 1 })
 }

@@ -1,12 +1,14 @@
-// An answer as numbers, for tests from Rust, and that of a command.
+// An answer as numbers, for tests from Rust, and what was scanned.
 #![tactic(auto)]
 
 ghost use Rattle.std.specs.Prelude.{◌≡◌, ◌<◌};
-ghost use Rattle.test_codes.specs.Codes.{code, code_of};
+ghost use Rattle.test_codes.specs.Codes.{code, axis_number, code_of, scanned_code};
 
-use scan_command::Command;
+use rules::Refusal;
+use scan_command::{Axis, Command};
 
-// Which case it is, counted from 1, and its values in their order (`specs/Codes.antt`).
+// Which case it is, counted from 1, and its values in their order (`specs/Codes.antt`). Seven named fields and no array: the C interface
+// to `leaves/` has the same struct.
 #[repr(C)]
 #[derive(Clone, Copy)]
 pub struct Code {
@@ -47,11 +49,20 @@ fn one(tag: u64, a: u32, next: usize) -> Code
     coded(tag, a as u64, 0, 0, 0, 0, next as u64)
 }
 
-// A command with two numbers.
-fn two(tag: u64, a: u32, b: u32, next: usize) -> Code
-    ensures { result ≡ code tag a b 0 0 0 next }
+fn axis_number(axis: Axis) -> u64
+    ensures { result ≡ axis_number axis }
 {
-    coded(tag, a as u64, b as u64, 0, 0, 0, next as u64)
+    match axis {
+        Axis::Across => 0,
+        Axis::Down => 1,
+    }
+}
+
+// A command with a direction and a number.
+fn moving(tag: u64, axis: Axis, a: u32, next: usize) -> Code
+    ensures { result ≡ code tag (axis_number axis) a 0 0 0 next }
+{
+    coded(tag, axis_number(axis), a as u64, 0, 0, 0, next as u64)
 }
 
 // A command with a name.
@@ -83,8 +94,18 @@ fn coloured(tag: u64, s: u32, a: u32, b: u32, c: u32, d: u32, next: usize) -> Co
     )
 }
 
+// What was scanned as numbers: a command, or else the number of its refusal and the place that it points at.
+pub fn scanned_code(scanned: Result<Command, Refusal>) -> Code
+    ensures { result ≡ scanned_code scanned }
+{
+    match scanned {
+        Ok(q) => command_code(q),
+        Err(r) => numbered(24, r.number, r.offset, 0, 0),
+    }
+}
+
 // A command as numbers.
-pub fn command_code(q: Command) -> Code
+fn command_code(q: Command) -> Code
     ensures { result ≡ code_of q }
 {
     match q {
@@ -101,8 +122,8 @@ pub fn command_code(q: Command) -> Code
             place,
             next,
         } => numbered(4, number, place, 0, next),
-        Command::To { axis, number, next } => two(5, axis, number, next),
-        Command::By { axis, number, next } => two(6, axis, number, next),
+        Command::To { axis, number, next } => moving(5, axis, number, next),
+        Command::By { axis, number, next } => moving(6, axis, number, next),
         Command::Page { number, next } => one(7, number, next),
         Command::Font { position, next } => one(8, position, next),
         Command::Size { size, next } => one(9, size, next),
@@ -146,7 +167,7 @@ fn drawing_code(q: Command) -> Code
     }
 }
 
-// The same of a device control, or of a refusal.
+// The same of a device control.
 fn control_code(q: Command) -> Code
     requires { 15 < (code_of q).tag }
     ensures { result ≡ code_of q }
@@ -165,7 +186,6 @@ fn control_code(q: Command) -> Code
         Command::Plain { letter, next } => one(21, letter, next),
         Command::Raw { next } => bare(22, next),
         Command::Stop { next } => bare(23, next),
-        Command::Refused { number, place } => numbered(24, number, place, 0, 0),
-        _ => coded(0, 0, 0, 0, 0, 0, 0),
+        _ => unreachable!(),
     }
 }

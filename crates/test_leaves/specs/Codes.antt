@@ -4,11 +4,11 @@ use Rattle.rules.specs.Widths.{WidthList, unsound, sound, width_list}
 use Rattle.rules.specs.Find.{Query, ill_formed, well_formed, query}
 use Rattle.scan_command.specs.View.{command_at}
 use Rattle.test_codes.specs.declared.Code.{Code}
-use Rattle.test_codes.specs.Codes.{code, code_of}
+use Rattle.test_codes.specs.Codes.{code, scanned_code}
 
 -- 0 where there is no byte at the place
 abbrev pub code_at : List ℕ → ℕ → Code
-code_at s at = if ltb at (length s) then code_of (command_at s at) else code 0 0 0 0 0 0 0
+code_at s at = if ltb at (length s) then scanned_code (command_at s at) else code 0 0 0 0 0 0 0
 
 -- 1: the offset of a wrong list; 2: unitwidth and number of fonts; 0 where it is too long
 abbrev pub list_is : WidthList → Code

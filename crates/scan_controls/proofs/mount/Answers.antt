@@ -1,8 +1,0 @@
-use Rattle.scan_controls.proofs.Steps.{steps}
-use Rattle.scan_controls.proofs.mount.Goals as goal
-
-pub returns-in-Short : goal.returns-in-Short
-returns-in-Short c = search steps
-
-pub returns-in-Read : goal.returns-in-Read
-returns-in-Read c = search steps
