@@ -1,4 +1,3 @@
 pub mod Putting
 pub mod Steps
 pub mod Turning
-pub mod Told

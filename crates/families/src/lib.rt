@@ -1,17 +1,15 @@
 // The family list (request 2026-01), judged, and its families in the table.
 #![tactic(auto)]
 
-ghost use Rattle.std.specs.Prelude.{◌≡◌, ◌+◌, ◌-◌, ◌≤◌, ◌<◌, length};
+ghost use Rattle.std.specs.Prelude.{◌≡◌, ◌+◌, ◌≤◌, ◌<◌, length};
+ghost use Rattle.rules.specs.Answers.{refusal};
 ghost use Rattle.rules.specs.Families.{is_new_name, family_list};
 ghost use Rattle.families_table.specs.Table.{families_at, Sized};
-ghost use Rattle.families.specs.Loading.{Marked, line_key, next_of, put_at, Slot, Going, Turned, answer_of, Loaded};
+ghost use Rattle.families.specs.Loading.{Marked, line_key, next_of, Slot, Put, Going, Turned, answer_of, Loaded};
 
-// The offset of refusal 14, or how many families there are.
-#[derive(Clone, Copy)]
-pub enum FamilyAnswer {
-    IllGrouped { offset: usize },
-    Grouped { families: usize },
-}
+use families_line::Key;
+use families_table::{FamilyName, Table};
+use rules::Refusal;
 
 // Between two lines: the next line's place, how many families were read, and how many names the newest of them has.
 #[derive(Clone, Copy)]
@@ -21,100 +19,106 @@ struct FamilyState {
     size: usize,
 }
 
-// The state behind the line, or the line is wrong.
-#[derive(Clone, Copy)]
-enum Flow {
-    On(FamilyState),
-    Stop,
+// The list is wrong there.
+fn wrong(offset: usize) -> Refusal
+    ensures { result ≡ refusal 14 offset }
+{
+    Refusal { number: 14, offset }
 }
 
 // Whether a name of a line is a name of a list, and not among the families so far. Where no earlier name has its mark, it is not.
-fn is_new(fl: &[u8], table: &[u32], seen: &[u8], families: usize, name: &[u8]) -> bool
-    requires { (length table.now ≡ 4609) × (length seen.now ≡ 16384) × (families ≤ 256) × Sized table.now families × Marked seen.now (families_at fl.now table.now families) }
+#[tactic(auto, using(crate::proofs::Steps::steps))]
+fn is_new(fl: &[u8], table: &Table, seen: &[bool; 16384], families: usize, name: &[u8]) -> bool
+    requires { Sized table.now families × Marked seen.now (families_at fl.now table.now families) }
     ensures { result ≡ is_new_name name.now (families_at fl.now table.now families) }
 {
-    if scan_lex::is_list_name(name) {
-        let mark = families_line::mark_of(name);
-        if seen[mark] == 0 {
-            return true;
-        }
-        return families_table::owner(fl, table, families, name) == 0;
-    }
-    false
+    scan_lex::is_list_name(name)
+        && (!seen[families_line::mark_of(name)]
+            || families_table::owner(fl, table, families, name).is_none())
 }
 
-// The key of the line from the state's place to its end; 0 where the line is wrong.
-fn line_key(fl: &[u8], table: &[u32], seen: &[u8], st: FamilyState, end: usize) -> u32
+// The key of the line from the state's place to its end; none where the line is wrong.
+#[tactic(auto, using(crate::proofs::Steps::steps))]
+fn line_key(
+    fl: &[u8],
+    table: &Table,
+    seen: &[bool; 16384],
+    st: FamilyState,
+    end: usize,
+) -> Option<Key>
     requires { Going fl.now st table.now seen.now × (st.at ≤ end) × (end ≤ length fl.now) }
     ensures { result ≡ line_key fl.now table.now st end }
 {
-    let at = st.at;
-    let key = families_line::key_of(&fl[at..end]);
+    let key = families_line::key_of(&fl[st.at..end])?;
     if families_line::may_stand(key, st.families, st.size) {
-        let place = at + 5;
-        if is_new(fl, table, seen, st.families, &fl[place..end]) {
-            return key;
-        }
+        let place = st.at + 5;
+        return is_new(fl, table, seen, st.families, &fl[place..end]).then_some(key);
     }
-    0
+    None
 }
 
-// The state behind a line with this key, which is 1 or 2.
-fn next(key: u32, at: usize, st: FamilyState) -> FamilyState
+// The state behind a line with this key.
+fn next(key: Key, at: usize, st: FamilyState) -> FamilyState
     requires { (st.families ≤ 256) × (st.size ≤ 8) }
     ensures { result ≡ next_of key at st }
 {
-    if key == 1 {
-        return FamilyState {
+    match key {
+        Key::Name => FamilyState {
             at,
             families: st.families + 1,
             size: 1,
-        };
-    }
-    FamilyState {
-        at,
-        families: st.families,
-        size: st.size + 1,
+        },
+        Key::Same => FamilyState {
+            at,
+            families: st.families,
+            size: st.size + 1,
+        },
     }
 }
 
-// Puts the newest name of the family at j, which then has so many, into the table.
-fn put(table: &mut [u32], j: usize, size: usize, place: usize, len: usize)
-    requires { (length table.old ≡ 4609) × Slot j size place len }
-    ensures { table.new ≡ put_at table.old j size place len }
+// Puts the newest name of the family j, which then has so many, into the table.
+fn put(table: &mut Table, j: usize, size: usize, name: FamilyName)
+    requires { Slot j size }
+    ensures { Put table.old j size name table.new }
 {
-    let i = j * 8 + size - 1;
-    table[i] = place as u32;
-    table[2_048 + i] = len as u32;
-    table[4_096 + j] = size as u32;
+    table.names[j * 8 + size - 1] = name;
+    table.sizes[j] = size as u32;
 }
 
 // Reads one line.
-fn turn(fl: &[u8], table: &mut [u32], seen: &mut [u8], st: FamilyState) -> Flow
+#[tactic(auto, using(crate::proofs::Turning::turning))]
+fn turn(
+    fl: &[u8],
+    table: &mut Table,
+    seen: &mut [bool; 16384],
+    st: FamilyState,
+) -> Result<FamilyState, Refusal>
     requires { Going fl.now st table.old seen.old × (st.at < length fl.now) }
     ensures { Turned fl.now st result table.new seen.new }
 {
     let at = st.at;
     let end = scan_lex::line_end(fl, at);
     if fl.len() <= end {
-        return Flow::Stop;
+        return Err(wrong(at));
     }
-    let key = line_key(fl, table, seen, st, end);
-    if key == 0 {
-        return Flow::Stop;
-    }
+    let key = line_key(fl, table, seen, st, end).ok_or(wrong(at))?;
     let place = at + 5;
+    let name = FamilyName {
+        place: place as u32,
+        len: (end - place) as u32,
+    };
     let mark = families_line::mark_of(&fl[place..end]);
     let u = next(key, end + 1, st);
-    put(table, u.families - 1, u.size, place, end - place);
-    seen[mark] = 1;
-    Flow::On(u)
+    put(table, u.families - 1, u.size, name);
+    seen[mark] = true;
+    Ok(u)
 }
 
-// Judges the list, and puts its families into the table; `seen` is for the marks of its names. Their content does not matter where the
-// list is wrong.
-pub fn load(fl: &[u8], table: &mut [u32], seen: &mut [u8]) -> FamilyAnswer
-    requires { (length table.old ≡ 4609) × (length seen.old ≡ 16384) × (length fl.now ≤ 65536) }
+// Judges the list, and puts its families into the table; answers how many there are, or refusal 14. `seen` is for the marks of its names.
+// Their content does not matter where the list is wrong.
+#[tactic(auto, using(crate::proofs::Turning::turning))]
+pub fn load(fl: &[u8], table: &mut Table, seen: &mut [bool; 16384]) -> Result<usize, Refusal>
+    requires { length fl.now ≤ 65536 }
     ensures { (result ≡ answer_of (family_list fl.now)) × Loaded fl.now table.new (family_list fl.now) }
 {
     let mut st = FamilyState {
@@ -122,20 +126,12 @@ pub fn load(fl: &[u8], table: &mut [u32], seen: &mut [u8]) -> FamilyAnswer
         families: 0,
         size: 0,
     };
+    // No `for` over the lines is plainer: a refusal names the place of its line.
     while st.at < fl.len() {
-        match turn(fl, table, seen, st) {
-            Flow::On(next) => {
-                st = next;
-            }
-            Flow::Stop => {
-                return FamilyAnswer::IllGrouped { offset: st.at };
-            }
-        }
+        st = turn(fl, table, seen, st)?;
     }
     if st.size == 1 {
-        return FamilyAnswer::IllGrouped { offset: fl.len() };
+        return Err(wrong(fl.len()));
     }
-    FamilyAnswer::Grouped {
-        families: st.families,
-    }
+    Ok(st.families)
 }

@@ -1,23 +1,24 @@
 -- One line of the family list, as the code sees it.
-use Rattle.std.specs.Prelude.{ℕ, zero, suc, ◌+◌, ◌*◌, ◌%◌, Bool, false, ◌&&◌, ◌||◌, List, [], ◌∷◌, ltb, eqb}
-use Rattle.std.proofs.Math.Option.{Option, none, some}
+use Rattle.std.specs.Prelude.{ℕ, ◌+◌, ◌*◌, ◌%◌, Bool, ◌&&◌, ◌||◌, List, [], ◌∷◌, Option, Some, None, ltb, eqb}
+use Rattle.std.proofs.Math.Option as M
 use Rattle.rules.specs.Bytes.{bytes}
 use Rattle.rules.specs.Widths.{behind}
+use Rattle.families_line.specs.declared.Key.{Key}
+use Rattle.families_line.specs.declared.Key.TheVariants.{Name, Same}
 
--- 1 for `name=`, 2 for `same=`, 0 for any other key
-abbrev pub key_by : Option (List ℕ) → Option (List ℕ) → ℕ
-key_by (some n) o = 1
-key_by none (some n) = 2
-key_by none none = 0
+-- the key of a line, by what stands behind `name=` and behind `same=`
+abbrev pub key_by : M.Option (List ℕ) → M.Option (List ℕ) → Option Key
+key_by (M.some n) o = Some Name
+key_by M.none (M.some n) = Some Same
+key_by M.none M.none = None
 
-abbrev pub key_of : List ℕ → ℕ
+abbrev pub key_of : List ℕ → Option Key
 key_of t = key_by (behind (bytes "name=") t) (behind (bytes "same=") t)
 
 -- a line with a key may stand behind so many families, the newest of which has so many names
-abbrev pub may_stand : ℕ → ℕ → ℕ → Bool
-may_stand zero families size = false
-may_stand (suc zero) families size = (eqb families 0 || ltb 1 size) && ltb families 256
-may_stand (suc (suc k)) families size = ltb 0 families && ltb size 8
+abbrev pub may_stand : Key → ℕ → ℕ → Bool
+may_stand Name families size = (eqb families 0 || ltb 1 size) && ltb families 256
+may_stand Same families size = ltb 0 families && ltb size 8
 
 -- equal names have equal marks
 unfoldable pub mark_from : ℕ → List ℕ → ℕ

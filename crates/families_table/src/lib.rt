@@ -1,74 +1,65 @@
 // The family table (request 2026-01): the names of each family by their places in the family list, and the family of a name.
 #![tactic(auto)]
 
-ghost use Rattle.std.specs.Prelude.{◌≡◌, ◌+◌, ◌≤◌, ◌<◌, length};
-ghost use Rattle.rules.specs.Bytes.{same};
+ghost use Rattle.std.specs.Prelude.{◌≡◌, ◌+◌, ◌≤◌, ◌<◌, IfSome};
+ghost use Rattle.name.specs.Part.{part_of};
 ghost use Rattle.rules.specs.Families.{is_in};
-ghost use Rattle.families_table.specs.Table.{name_at, names_at, kin_of, families_at, owner_of, Sized};
+ghost use Rattle.families_table.specs.Table.{names_at, kin_of, families_at, owner_of, Sized};
 
-pub fn wide(x: u32) -> usize
-    ensures { result ≡ x }
-{
-    x as usize
+// A name of a family: its place and length in the family list.
+#[derive(Clone, Copy)]
+pub struct FamilyName {
+    pub place: u32,
+    pub len: u32,
 }
 
-// Whether the name at a place of the table is this one.
-fn is_at(fl: &[u8], table: &[u32], i: usize, name: &[u8]) -> bool
-    requires { (length table.now ≡ 4609) × (i < 2048) }
-    ensures { result ≡ same name.now (name_at fl.now table.now i) }
-{
-    let place = wide(table[i]);
-    let len = wide(table[2_048 + i]);
-    let other = name::name_at(fl, place, len);
-    scan_lex::same_bytes(name, other)
+impl FamilyName {
+    pub fn bytes<'a>(self, fl: &'a [u8]) -> &'a [u8]
+        ensures { result.now ≡ part_of fl.now self.place self.len }
+    {
+        name::name_at(fl, self.place as usize, self.len as usize)
+    }
 }
 
-// Whether a name is one of so many in the table from a place on; the last one is looked at first.
-fn among(fl: &[u8], table: &[u32], from: usize, count: usize, name: &[u8]) -> bool
-    requires { (length table.now ≡ 4609) × (from + count ≤ 2048) }
+// The names of up to 256 families, up to 8 each, and how many each has. The family j, counted from 0, has its names from 8 * j on.
+#[derive(Clone, Copy)]
+pub struct Table {
+    pub names: [FamilyName; 2048],
+    pub sizes: [u32; 256],
+}
+
+// Whether a name is one of so many in the table from a place on.
+fn among(fl: &[u8], table: &Table, from: usize, count: usize, name: &[u8]) -> bool
+    requires { from + count ≤ 2048 }
     ensures { result ≡ is_in name.now (names_at fl.now table.now from count) }
 {
-    let mut k = count;
-    while 0 < k {
-        let j = k - 1;
-        if is_at(fl, table, from + j, name) {
-            return true;
-        }
-        k = j;
-    }
-    false
+    table.names[from..from + count]
+        .iter()
+        .any(|other| scan_lex::same_bytes(name, other.bytes(fl)))
 }
 
-// Whether a name is in the family numbered k, counted from 1; no name is in 0.
-pub fn is_kin(fl: &[u8], table: &[u32], k: usize, name: &[u8]) -> bool
-    requires { length table.now ≡ 4609 }
-    ensures { result ≡ is_in name.now (kin_of fl.now table.now k) }
+// Whether a name is in a family.
+#[tactic(auto, using(crate::proofs::Steps::steps))]
+pub fn is_kin(fl: &[u8], table: &Table, family: usize, name: &[u8]) -> bool
+    ensures { result ≡ is_in name.now (kin_of fl.now table.now family) }
 {
-    if k == 0 {
+    if 256 <= family {
         return false;
     }
-    if 256 < k {
-        return false;
-    }
-    let j = k - 1;
-    let size = wide(table[4_096 + j]);
-    if 8 < size {
-        return false;
-    }
-    among(fl, table, j * 8, size, name)
+    let size = table.sizes[family] as usize;
+    size <= 8 && among(fl, table, family * 8, size, name)
 }
 
-// The number of the family that a name is in, of so many; 0 where it is in none.
-pub fn owner(fl: &[u8], table: &[u32], families: usize, name: &[u8]) -> usize
-    requires { (length table.now ≡ 4609) × (families ≤ 256) × Sized table.now families }
-    ensures { (result ≡ owner_of name.now (families_at fl.now table.now families)) × (result ≤ families) }
+// The family that a name is in, of so many.
+#[tactic(auto, using(crate::proofs::Steps::steps))]
+pub fn owner(fl: &[u8], table: &Table, families: usize, name: &[u8]) -> Option<usize>
+    requires { Sized table.now families }
+    ensures { (result ≡ owner_of name.now (families_at fl.now table.now families)) × IfSome result (λ j. j < families) }
 {
-    let mut k = families;
-    while 0 < k {
-        if is_kin(fl, table, k, name) {
-            return k;
+    for family in (0..families).rev() {
+        if is_kin(fl, table, family, name) {
+            return Some(family);
         }
-        k -= 1;
     }
-    0
+    None
 }

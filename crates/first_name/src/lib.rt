@@ -2,96 +2,62 @@
 // stream. Nothing is copied.
 #![tactic(auto)]
 
-ghost use Rattle.std.specs.Prelude.{◌≡◌, ◌≤◌, length};
-ghost use Rattle.std.proofs.Math.Option.{none};
+ghost use Rattle.std.specs.Prelude.{◌≡◌, length};
 ghost use Rattle.rules.specs.Families.{family_of};
 ghost use Rattle.rules.specs.Answers.{listed};
 ghost use Rattle.rules.specs.Calls.{NamePartCall, FirstNameCall};
 ghost use Rattle.families_table.specs.Table.{families_at, Sized};
 ghost use Rattle.first_name.specs.First.{first_of, lies_in};
 
-use families::FamilyAnswer;
+use families_table::{FamilyName, Table};
 use rules::{NamePart, Record};
 
-// The first name of a family: where it stands in the list; or there is no family.
-#[derive(Clone, Copy)]
-struct First {
-    found: bool,
-    place: usize,
-    len: usize,
-}
-
-fn no_family() -> First
-    ensures { result ≡ first_of none }
-{
-    First {
-        found: false,
-        place: 0,
-        len: 0,
-    }
-}
-
-// Of the family, among so many in the table, that a name is in.
-fn first_in(fl: &[u8], table: &[u32], families: usize, own: &[u8]) -> First
-    requires { (length table.now ≡ 4609) × (families ≤ 256) × Sized table.now families }
+// Where the first name of the family that a name is in stands, of so many families in the table.
+#[tactic(auto, using(crate::proofs::Steps::in_table))]
+fn first_in(fl: &[u8], table: &Table, families: usize, own: &[u8]) -> Option<NamePart>
+    requires { Sized table.now families }
     ensures { result ≡ first_of (family_of own.now (families_at fl.now table.now families)) }
 {
-    let k = families_table::owner(fl, table, families, own);
-    if k == 0 {
-        return no_family();
-    }
-    let i = (k - 1) * 8;
-    let place = families_table::wide(table[i]);
-    let first = name::name_at(fl, place, families_table::wide(table[2_048 + i]));
-    First {
-        found: true,
-        place,
-        len: first.len(),
-    }
+    let family = families_table::owner(fl, table, families, own)?;
+    let first = table.names[family * 8];
+    Some(NamePart::InFamilies {
+        place: first.place as usize,
+        len: first.bytes(fl).len(),
+    })
 }
 
-// Of the family that a name is in; a wrong or too long list counts as an empty one.
-fn first_of(fl: &[u8], own: &[u8]) -> First
+// The same, of the families in the list; a wrong or too long list counts as an empty one.
+#[tactic(auto, using(crate::proofs::Steps::in_list))]
+fn first_of(fl: &[u8], own: &[u8]) -> Option<NamePart>
     ensures { result ≡ first_of (family_of own.now (listed fl.now)) }
 {
     if 65_536 < fl.len() {
-        return no_family();
+        return None;
     }
-    let mut table = [0u32; 4609];
-    let mut seen = [0u8; 16384];
-    match families::load(fl, &mut table, &mut seen) {
-        FamilyAnswer::IllGrouped { offset } => no_family(),
-        FamilyAnswer::Grouped { families } => first_in(fl, &table, families, own),
-    }
+    let mut table = Table {
+        names: [FamilyName { place: 0, len: 0 }; 2048],
+        sizes: [0; 256],
+    };
+    let mut seen = [false; 16384];
+    let families = families::load(fl, &mut table, &mut seen).ok()?;
+    first_in(fl, &table, families, own)
 }
 
 // Whether a name of this place and length, which is not 0, lies in a stream of n bytes.
 fn lies_in(n: usize, place: usize, len: usize) -> bool
     ensures { result ≡ lies_in n place len }
 {
-    if len == 0 {
-        return false;
-    }
-    if n < place {
-        return false;
-    }
-    len <= n - place
+    0 < len && place <= n && len <= n - place
 }
 
 // Where the first name for a record stands whose name has this place and length in s.
+#[tactic(auto, using(crate::proofs::Steps::parts))]
 pub fn name_part(s: &[u8], fl: &[u8], place: usize, len: usize) -> NamePart
     ensures { NamePartCall s.now fl.now place len result }
 {
     if lies_in(s.len(), place, len) {
         let own = name::name_at(s, place, len);
-        let f = first_of(fl, own);
-        if f.found {
-            return NamePart::InFamilies {
-                place: f.place,
-                len: f.len,
-            };
-        }
-        return NamePart::InStream { place, len };
+        return first_of(fl, own).unwrap_or(NamePart::InStream { place, len });
     }
     NamePart::Nowhere
 }

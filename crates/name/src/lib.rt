@@ -2,26 +2,17 @@
 // caller's own bytes, a view and no copy, that are compared or written.
 #![tactic(auto)]
 
-ghost use Rattle.std.specs.Prelude.{◌≡◌, ◌≤◌, min};
+ghost use Rattle.std.specs.Prelude.{◌≡◌};
 ghost use Rattle.name.specs.Part.{part_of};
 
 use rules::Record;
-
-// The smaller of two numbers.
-fn least(a: usize, b: usize) -> usize
-    ensures { (result ≤ a) × (result ≤ b) × (result ≡ min a b) }
-{
-    if a < b { a } else { b }
-}
 
 // The part of s where a command, a query, a family list or a width list says that a name is, cut where s ends.
 pub fn name_at<'a>(s: &'a [u8], place: usize, len: usize) -> &'a [u8]
     ensures { result.now ≡ part_of s.now place len }
 {
-    let start = least(place, s.len());
-    let size = least(len, s.len() - start);
-    let end = start + size;
-    &s[start..end]
+    let rest = &s[place.min(s.len())..];
+    &rest[..len.min(rest.len())]
 }
 
 // The name of a record of the stream s.

@@ -1,130 +1,110 @@
 // The query, judged, and its glyph lines by number (document 01, "Finding").
 #![tactic(auto)]
 
-ghost use Rattle.std.specs.Prelude.{◌≡◌, ◌+◌, ◌-◌, ◌≤◌, ◌<◌, length, set};
+ghost use Rattle.std.specs.Prelude.{◌≡◌, ◌≤◌, ◌<◌, length};
+ghost use Rattle.rules.specs.Answers.{refusal};
 ghost use Rattle.rules.specs.Find.{query};
-ghost use Rattle.query.specs.Asked.{query_of, LinesOf};
-ghost use Rattle.query.specs.Turns.{expected_of, end_of, LineRoom, Going, LineTurned};
+ghost use Rattle.query.specs.Asked.{no_glyph, query_of, LinesOf};
+ghost use Rattle.query.specs.Turns.{end_of, Going, LineTurned};
+ghost use Rattle.query_line.specs.Kinds.{expected_of};
 
-use query_line::Kind;
+use query_line::{Due, Gap, Kind};
+use rules::Refusal;
 
-// The offset of refusal 12, or how many glyphs are asked for.
+// A glyph line: its name's place and length in the query, and what it asks of the gap mark.
 #[derive(Clone, Copy)]
-pub enum QueryAnswer {
-    IllFormed { offset: usize },
-    WellFormed { glyphs: usize },
+pub struct Wanted {
+    pub place: u32,
+    pub len: u32,
+    pub gap: Gap,
 }
 
-// Between two lines: the next line's place; what a glyph line there asks of the gap mark (0 nothing, it is the first; 1 that it is
-// not set; 2 that it is, a gap line was read); that gap line's place; and how many glyph lines were read.
+// What stands where there is no glyph line.
+pub fn no_glyph() -> Wanted
+    ensures { result ≡ no_glyph }
+{
+    Wanted {
+        place: 0,
+        len: 0,
+        gap: Gap::Either,
+    }
+}
+
+// Between two lines: the next line's place, what may stand there, and how many glyph lines were read.
 #[derive(Clone, Copy)]
 struct QueryState {
     at: usize,
-    due: u32,
-    gap: usize,
+    due: Due,
     glyphs: usize,
 }
 
-// The state behind the line, or the line is wrong.
-#[derive(Clone, Copy)]
-enum Flow {
-    On(QueryState),
-    Stop,
-}
-
-// Puts a glyph line into the rows.
-fn put(
-    places: &mut [u32],
-    lens: &mut [u32],
-    gaps: &mut [u32],
-    n: usize,
-    place: u32,
-    len: u32,
-    gap: u32,
-)
-    requires { LineRoom n places.old lens.old gaps.old }
-    ensures places_after { places.new ≡ set places.old n place }
-    ensures lens_after { lens.new ≡ set lens.old n len }
-    ensures gaps_after { gaps.new ≡ set gaps.old n gap }
+// The query is wrong there.
+fn wrong(offset: usize) -> Refusal
+    ensures { result ≡ refusal 12 offset }
 {
-    places[n] = place;
-    lens[n] = len;
-    gaps[n] = gap;
+    Refusal { number: 12, offset }
 }
 
 // Reads one line.
-fn turn(q: &[u8], places: &mut [u32], lens: &mut [u32], gaps: &mut [u32], st: QueryState) -> Flow
-    requires { Going q.now st places.old lens.old gaps.old × (st.at < length q.now) }
-    ensures { LineTurned q.now st result places.new lens.new gaps.new }
+#[tactic(auto, using(crate::proofs::Turning::turning))]
+fn turn(q: &[u8], glyphs: &mut [Wanted; 64], st: QueryState) -> Result<QueryState, Refusal>
+    requires { Going q.now st glyphs.old × (st.at < length q.now) }
+    ensures { LineTurned q.now st result glyphs.new }
 {
     let at = st.at;
-    let n = st.glyphs;
     let end = scan_lex::line_end(q, at);
     if q.len() <= end {
-        return Flow::Stop;
+        return Err(wrong(at));
     }
-    match query_line::kind_of(&q[at..end], st.due, n) {
+    let kind = query_line::kind_of(&q[at..end], st.due, st.glyphs).ok_or(wrong(at))?;
+    match kind {
         Kind::Glyph => {
             let place = at + 6;
-            put(
-                places,
-                lens,
-                gaps,
-                n,
-                place as u32,
-                (end - place) as u32,
-                st.due,
-            );
-            Flow::On(QueryState {
+            glyphs[st.glyphs] = Wanted {
+                place: place as u32,
+                len: (end - place) as u32,
+                gap: st.due.gap(),
+            };
+            Ok(QueryState {
                 at: end + 1,
-                due: 1,
-                gap: 0,
-                glyphs: n + 1,
+                due: Due::Either,
+                glyphs: st.glyphs + 1,
             })
         }
-        Kind::Gap => Flow::On(QueryState {
+        Kind::Gap => Ok(QueryState {
             at: end + 1,
-            due: 2,
-            gap: at,
-            glyphs: n,
+            due: Due::Glyph { gap: at },
+            glyphs: st.glyphs,
         }),
-        Kind::Wrong => Flow::Stop,
     }
 }
 
 // What the end of the query says.
-fn ended(st: QueryState) -> QueryAnswer
-    ensures { result ≡ end_of st.glyphs (expected_of st.due st.gap) }
+fn ended(st: QueryState) -> Result<usize, Refusal>
+    ensures { result ≡ end_of st.glyphs (expected_of st.due) }
 {
-    let due = st.due;
-    match due {
-        0 => QueryAnswer::IllFormed { offset: 0 },
-        1 => QueryAnswer::WellFormed { glyphs: st.glyphs },
-        _ => QueryAnswer::IllFormed { offset: st.gap },
+    match st.due {
+        Due::First => Err(wrong(0)),
+        Due::Glyph { gap } => Err(wrong(gap)),
+        Due::Either => Ok(st.glyphs),
     }
 }
 
-// Judges the query, and puts its glyph lines into the rows: of each its name's place and length in q, and what it asks of the gap
-// mark. The rows' content does not matter where the query is ill formed.
-pub fn load(q: &[u8], places: &mut [u32], lens: &mut [u32], gaps: &mut [u32]) -> QueryAnswer
-    requires { (length places.old ≡ 64) × (length lens.old ≡ 64) × (length gaps.old ≡ 64) × (length q.now ≤ 8192) }
-    ensures { (result ≡ query_of (query q.now)) × LinesOf q.now places.new lens.new gaps.new (query q.now) }
+// Judges the query, and puts its glyph lines into the row; answers how many there are, or refusal 12. The row's content does not matter
+// where the query is ill formed.
+#[tactic(auto, using(crate::proofs::Turning::turning))]
+pub fn load(q: &[u8], glyphs: &mut [Wanted; 64]) -> Result<usize, Refusal>
+    requires { length q.now ≤ 8192 }
+    ensures { (result ≡ query_of (query q.now)) × LinesOf q.now glyphs.new (query q.now) }
 {
     let mut st = QueryState {
         at: 0,
-        due: 0,
-        gap: 0,
+        due: Due::First,
         glyphs: 0,
     };
+    // No `for` over the lines is plainer: a refusal names the place of its line.
     while st.at < q.len() {
-        match turn(q, places, lens, gaps, st) {
-            Flow::On(next) => {
-                st = next;
-            }
-            Flow::Stop => {
-                return QueryAnswer::IllFormed { offset: st.at };
-            }
-        }
+        st = turn(q, glyphs, st)?;
     }
     ended(st)
 }

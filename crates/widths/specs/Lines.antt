@@ -1,11 +1,8 @@
--- A line of any kind, and the line at a place.
+-- The line at a place, of any kind.
 use Rattle.std.specs.Prelude.{ℕ, List, ltb, length, drop}
-use Rattle.rules.specs.Bytes.{bytes, one_line}
-use Rattle.rules.specs.Widths.{Line, Widths, Due, LineRead, behind, block_line, line_read}
+use Rattle.rules.specs.Bytes.{one_line}
+use Rattle.rules.specs.Widths.{Line, Widths, Due, LineRead, line_read}
 use Rattle.name.specs.Part.{part_of}
-
-abbrev pub block_says : List ℕ → Widths → Due → LineRead
-block_says t w d = block_line w t (behind (bytes "font=") t)
 
 -- the line at a place
 abbrev pub length_at : List ℕ → ℕ → ℕ

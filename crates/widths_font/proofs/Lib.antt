@@ -1,2 +1,1 @@
 pub mod Fonts
-pub mod Rows

@@ -1,32 +1,34 @@
 -- What the code holds while it goes over the lines of a width list, and how that stands for what the rules hold.
-use Rattle.std.specs.Prelude.{ℕ, ◌+◌, ◌≤◌, ◌<◌, min, Bool, ◌&&◌, List, [], ◌∷◌, ◌≡◌, leb, ltb, eqb, length, if◌then◌else◌}
-use Rattle.std.proofs.Math.Option.{Option, none, some}
+use Rattle.std.specs.Prelude.{ℕ, ◌+◌, ◌≤◌, ◌<◌, Bool, ◌&&◌, List, [], ◌∷◌, ◌≡◌, leb, ltb, eqb, length, if◌then◌else◌, Option, None, Some, Result, Ok, Err}
+use Rattle.std.proofs.Math.Option as O
+use Rattle.rules.specs.declared.Refusal.{Refusal}
+use Rattle.rules.specs.Answers.{refusal}
 use Rattle.rules.specs.Bytes.{bytes, is_digit, span, value}
-use Rattle.rules.specs.Widths.{Width, Font, Widths, Due, unit_due, block_due, width_due, LineRead, wrong_line, right_line, behind, numbered, is_byte, unit_line, byte_line, line_says}
-use Rattle.widths_table.specs.Table.{TableOf, NamesOf}
+use Rattle.rules.specs.Widths.{Width, Font, Widths, Due, unit_due, block_due, width_due, LineRead, wrong_line, right_line, behind, numbered, is_byte, unit_line, byte_line, width_line}
+use Rattle.widths_table.specs.declared.Block.{Block}
+use Rattle.widths_table.specs.Blocks.{BlocksOf}
+use Rattle.widths_line.specs.declared.Due as Code
+use Rattle.widths_line.specs.declared.Due.TheVariants as D
 use Rattle.widths_line.specs.declared.State.{State}
 
--- ---- numbers: cut at 100001, which stands for a missing one too, since no number of a list may be above 100000
+-- ---- numbers: none of a list may be above 100000
 
-abbrev pub cut : Option ℕ → ℕ
-cut none = 100001
-cut (some n) = min n 100001
+abbrev pub listed : O.Option ℕ → Option ℕ
+listed O.none = None
+listed (O.some n) = if leb n 100000 then Some n else None
 
-abbrev pub digits_cut : List ℕ → ℕ
-digits_cut t = if eqb (span is_digit t) (length t) then min (value 0 t) 100001 else 100001
+-- the number of a text of digits alone
+abbrev pub digit_number : List ℕ → O.Option ℕ
+digit_number t = if eqb (span is_digit t) (length t) then O.some (value 0 t) else O.none
 
--- ---- the state: what is due (0 `unitwidth`, 1 `font` or `byte`, 2 `width`, 3 where the line was wrong), and the least byte that may stand next
+-- ---- the state, at a place
 
-abbrev pub due_of : Due → ℕ
-due_of unit_due = 0
-due_of block_due = 1
-due_of (width_due b) = 2
+abbrev pub due_of : Due → Code.Due
+due_of unit_due = D.Unitwidth
+due_of block_due = D.Block
+due_of (width_due b) = D.Width b
 
-abbrev pub byte_of : Due → ℕ
-byte_of unit_due = 0
-byte_of block_due = 0
-byte_of (width_due b) = b
-
+-- the least byte that may stand next
 abbrev pub low_in : List Width → ℕ
 low_in [] = 0
 low_in (p ∷ ps) = p.byte + 1
@@ -38,44 +40,54 @@ low_of (f ∷ fs) = low_in f.widths
 abbrev pub can_follow : ℕ → ℕ → ℕ → Bool
 can_follow b fonts low = ltb 0 fonts && (is_byte b && leb low b)
 
+abbrev pub state_of : Widths → Due → ℕ → State
+state_of w d at = record { due = due_of d; unitwidth = w.unitwidth; fonts = length w.fonts; low = low_of w.fonts; at = at }
+
+-- behind a line at a place: it was wrong, or the state that the rules reach, at the next line
+abbrev pub reached : ℕ → ℕ → LineRead → Result State Refusal
+reached at next wrong_line = Err (refusal 2 at)
+reached at next (right_line d w) = Ok (state_of w d next)
+
+-- ---- the table
+
 -- a width is due in a block only
 abbrev pub Ready : Due → List Font → Type 0
 Ready unit_due fs = Unit {0}
 Ready block_due fs = Unit {0}
 Ready (width_due b) fs = (b < 256) × (0 < length fs)
 
--- the state and the rows stand for what the rules have reached
-pub record Holds (list table places lens : List ℕ) (w : Widths) (d : Due) (st : State) : Type 0 where
-  pub due : st.due ≡ due_of d
-  pub unit : st.unitwidth ≡ w.unitwidth
-  pub fonts : st.fonts ≡ length w.fonts
-  pub low : st.low ≡ low_of w.fonts
-  pub byte : st.byte ≡ byte_of d
+-- the table holds what the rules have reached
+pub record Stands (list : List ℕ) (table : List Block) (w : Widths) (d : Due) : Type 0 where
   pub few : length w.fonts ≤ 32
   pub ready : Ready d w.fonts
-  pub entries : TableOf w.fonts table
-  pub names : NamesOf list w.fonts places lens
+  pub blocks : BlocksOf list w.fonts table
 
--- behind a line: it was wrong, or the state stands for what the rules reach, at the next line
-abbrev pub After : List ℕ → List ℕ → List ℕ → List ℕ → ℕ → State → LineRead → Type 0
-After list table places lens next r wrong_line = r.due ≡ 3
-After list table places lens next r (right_line d w) = (r.at ≡ next) × Holds list table places lens w d r
+abbrev pub StandsBehind : List ℕ → List Block → LineRead → Type 0
+StandsBehind list table wrong_line = Unit {0}
+StandsBehind list table (right_line d w) = Stands list table w d
+
+-- in front of a line: the state and the table are what the rules have reached
+abbrev pub Holds : List ℕ → List Block → Widths → Due → State → Type 0
+Holds list table w d st = (st ≡ state_of w d st.at) × Stands list table w d
+
+-- behind it
+abbrev pub After : List ℕ → List Block → ℕ → ℕ → Result State Refusal → LineRead → Type 0
+After list table at next r x = (r ≡ reached at next x) × StandsBehind list table x
 
 -- ---- what the functions for a line ensure, whatever the rules have reached in front of it
 
--- no row is changed
-pub record LineJudged (next : ℕ) (st r : State) (says : Widths → Due → LineRead) : Type 0 where
-  pub told : (list table places lens : List ℕ) (w : Widths) (d : Due) → Holds list table places lens w d st → After list table places lens next r (says w d)
+abbrev pub unit_says : List ℕ → LineRead
+unit_says t = unit_line (numbered (behind (bytes "unitwidth=") t))
+
+abbrev pub byte_says : List ℕ → Widths → LineRead
+byte_says t w = byte_line w (numbered (behind (bytes "byte=") t))
+
+abbrev pub width_says : List ℕ → Widths → ℕ → LineRead
+width_says t w b = width_line w b (numbered (behind (bytes "width=") t))
+
+pub record ByteJudged (t : List ℕ) (st : State) (next : ℕ) (r : Result State Refusal) : Type 0 where
+  pub told : (w : Widths) (d : Due) → st ≡ state_of w d st.at → r ≡ reached st.at next (byte_says t w)
 
 -- the table is changed
-pub record Stored (table table' : List ℕ) (next : ℕ) (st r : State) (says : Widths → Due → LineRead) : Type 0 where
-  pub told : (list places lens : List ℕ) (w : Widths) (d : Due) → Holds list table places lens w d st → After list table' places lens next r (says w d)
-
-abbrev pub unit_says : List ℕ → Widths → Due → LineRead
-unit_says t w d = unit_line (numbered (behind (bytes "unitwidth=") t))
-
-abbrev pub byte_says : List ℕ → Widths → Due → LineRead
-byte_says t w d = byte_line w (numbered (behind (bytes "byte=") t))
-
-abbrev pub width_says : List ℕ → Widths → Due → LineRead
-width_says t w d = line_says w t d
+pub record Stored (t : List ℕ) (table table' : List Block) (st : State) (b next : ℕ) (r : Result State Refusal) : Type 0 where
+  pub told : (list : List ℕ) (w : Widths) → Holds list table w (width_due b) st → After list table' st.at next r (width_says t w b)

@@ -1,160 +1,138 @@
 // The lines `unitwidth=N`, `byte=N` and `width=N` of a width list (document 01, "Widths").
 #![tactic(auto)]
 
-ghost use Rattle.std.specs.Prelude.{◌≡◌, ◌-◌, ◌*◌, ◌≤◌, ◌<◌, length};
+ghost use Rattle.std.specs.Prelude.{◌≡◌, ◌≤◌};
+ghost use Rattle.rules.specs.Answers.{refusal};
 ghost use Rattle.rules.specs.Widths.{behind, numbered, plain_number, is_byte};
-ghost use Rattle.widths_line.specs.Reading.{cut, digits_cut, can_follow, LineJudged, Stored, unit_says, byte_says, width_says};
+ghost use Rattle.widths_line.specs.Reading.{listed, digit_number, can_follow, reached, unit_says, ByteJudged, Stored};
 
-// What has been reached in the list: what is due (0 a unitwidth line, 1 a font or byte line, 2 a width line, 3 where a line was wrong),
-// the unitwidth, how many fonts there are, the least byte that may stand next in the block, the byte whose width is due, and the place.
+use rules::Refusal;
+use widths_table::Table;
+
+// What is due: a unitwidth line; a font or byte line; the width line of a byte.
+#[derive(Clone, Copy)]
+pub enum Due {
+    Unitwidth,
+    Block,
+    Width { byte: u8 },
+}
+
+// What has been reached in the list: what is due, the unitwidth, how many fonts there are, the least byte that may stand next in the
+// block, and the place.
 #[derive(Clone, Copy)]
 pub struct State {
-    pub due: u8,
+    pub due: Due,
     pub unitwidth: u32,
     pub fonts: usize,
     pub low: u32,
-    pub byte: u32,
     pub at: usize,
 }
 
-// The number of a text of digits alone, cut at 100001; 100001 for any other text.
-fn digits(t: &[u8]) -> u32
-    ensures { result ≡ digits_cut t.now }
+// The number of a text of digits alone, where it is at most 100000.
+#[tactic(auto, using(crate::proofs::Texts::digits))]
+fn digits(t: &[u8]) -> Option<u32>
+    ensures { result ≡ listed (digit_number t.now) }
 {
     let d = scan_integer::digits(t, 0);
-    if d.next == t.len() {
-        if d.value <= 100000 { d.value } else { 100001 }
+    if d.next == t.len() && d.value <= 100_000 {
+        Some(d.value)
     } else {
-        100001
+        None
     }
 }
 
-// The number that a text is, without leading zeros, cut at 100001; 100001 where it is none.
-fn number(t: &[u8]) -> u32
-    ensures { result ≡ cut (plain_number t.now) }
+// The number that a text is, without leading zeros and at most 100000.
+#[tactic(auto, using(crate::proofs::Texts::digits_plain, crate::proofs::Texts::zero_plain))]
+fn number(t: &[u8]) -> Option<u32>
+    ensures { result ≡ listed (plain_number t.now) }
 {
-    if t.len() == 0 {
-        return 100001;
+    match t {
+        [] | [b'0', _, ..] => None,
+        _ => digits(t),
     }
-    if t.len() == 1 {
-        return digits(t);
-    }
-    if t[0] == 48 {
-        return 100001;
-    }
-    digits(t)
 }
 
 // The number behind a key, as `number`.
-fn keyed_number(t: &[u8], key: &[u8]) -> u32
-    ensures { result ≡ cut (numbered (behind key.now t.now)) }
+#[tactic(auto, using(crate::proofs::Texts::stripped, crate::proofs::Texts::unstripped))]
+fn keyed_number(t: &[u8], key: &[u8]) -> Option<u32>
+    ensures { result ≡ listed (numbered (behind key.now t.now)) }
 {
-    let k = key.len();
-    if t.len() < k {
-        return 100001;
-    }
-    if scan_lex::same_bytes(key, &t[..k]) {
-        number(&t[k..])
-    } else {
-        100001
-    }
+    number(t.strip_prefix(key)?)
 }
 
-// A state that says that a line was wrong.
-pub fn wrong(at: usize) -> State
-    ensures { result.due ≡ 3 }
+// The refusal of a list, at its wrong line.
+pub fn wrong(at: usize) -> Refusal
+    ensures { result ≡ refusal 2 at }
 {
-    State {
-        due: 3,
-        unitwidth: 0,
-        fonts: 0,
-        low: 0,
-        byte: 0,
-        at,
+    Refusal {
+        number: 2,
+        offset: at,
     }
 }
 
 // `unitwidth=N`
-pub fn unit_line(t: &[u8], st: State, next: usize) -> State
-    ensures { LineJudged next st result (unit_says t.now) }
+pub fn unit_line(t: &[u8], at: usize, next: usize) -> Result<State, Refusal>
+    ensures { result ≡ reached at next (unit_says t.now) }
 {
-    let n = keyed_number(t, b"unitwidth=");
-    if n < 1 {
-        return wrong(st.at);
+    let unitwidth = keyed_number(t, b"unitwidth=").ok_or(wrong(at))?;
+    if unitwidth < 1 {
+        return Err(wrong(at));
     }
-    if 100000 < n {
-        return wrong(st.at);
-    }
-    State {
-        due: 1,
-        unitwidth: n,
+    Ok(State {
+        due: Due::Block,
+        unitwidth,
         fonts: 0,
         low: 0,
-        byte: 0,
         at: next,
-    }
+    })
 }
 
 fn is_byte(b: u32) -> bool
     ensures { result ≡ is_byte b }
 {
-    (b <= 255) & (!(b == 9) & (!(b == 10) & !(b == 32)))
+    b <= 255 && !matches!(b, 9 | 10 | 32)
 }
 
 // Whether a byte may stand next: in a block only, and from low on.
 fn can_follow(b: u32, fonts: usize, low: u32) -> bool
     ensures { result ≡ can_follow b fonts low }
 {
-    let ok = is_byte(b);
-    (0 < fonts) & (ok & (low <= b))
+    0 < fonts && is_byte(b) && low <= b
 }
 
 // `byte=N`
-pub fn byte_line(t: &[u8], st: State, next: usize) -> State
-    ensures { LineJudged next st result (byte_says t.now) }
+pub fn byte_line(t: &[u8], st: State, next: usize) -> Result<State, Refusal>
+    ensures { ByteJudged t.now st next result }
 {
-    let b = keyed_number(t, b"byte=");
-    if can_follow(b, st.fonts, st.low) {
-        State {
-            due: 2,
-            unitwidth: st.unitwidth,
-            fonts: st.fonts,
-            low: st.low,
-            byte: b,
-            at: next,
-        }
-    } else {
-        wrong(st.at)
+    let byte = keyed_number(t, b"byte=").ok_or(wrong(st.at))?;
+    if !can_follow(byte, st.fonts, st.low) {
+        return Err(wrong(st.at));
     }
+    Ok(State {
+        due: Due::Width { byte: byte as u8 },
+        at: next,
+        ..st
+    })
 }
 
-// Where the newest font's places begin in the table.
-fn block_start(fonts: usize) -> usize
-    requires { fonts ≤ 32 }
-    ensures { result ≡ (fonts - 1) * 256 }
+// `width=N`, of a byte: the width + 1 goes into the newest font's block.
+#[tactic(auto, using(crate::proofs::Lines::lines))]
+pub fn width_line(
+    t: &[u8],
+    table: &mut Table,
+    st: State,
+    byte: u8,
+    next: usize,
+) -> Result<State, Refusal>
+    requires { st.fonts ≤ 32 }
+    ensures { Stored t.now table.old table.new st byte next result }
 {
-    if fonts == 0 { 0 } else { (fonts - 1) * 256 }
-}
-
-// `width=N`: the width + 1 goes into the table.
-pub fn width_line(t: &[u8], table: &mut [u32], st: State, next: usize) -> State
-    requires { (2 ≤ st.due) × (st.fonts ≤ 32) × (st.byte < 256) × (length table.old ≡ 8192) }
-    ensures { Stored table.old table.new next st result (width_says t.now) }
-{
-    let width = keyed_number(t, b"width=");
-    if width <= 100000 {
-        let b = st.byte;
-        let i = block_start(st.fonts) + widths_slot::wide(b);
-        table[i] = width + 1;
-        State {
-            due: 1,
-            unitwidth: st.unitwidth,
-            fonts: st.fonts,
-            low: b + 1,
-            byte: 0,
-            at: next,
-        }
-    } else {
-        wrong(st.at)
-    }
+    let width = keyed_number(t, b"width=").ok_or(wrong(st.at))?;
+    table[st.fonts.saturating_sub(1)].widths[byte as usize] = width + 1;
+    Ok(State {
+        due: Due::Block,
+        low: byte as u32 + 1,
+        at: next,
+        ..st
+    })
 }

@@ -4,40 +4,23 @@
 ghost use Rattle.std.specs.Prelude.{◌≡◌, ◌≤◌, ◌<◌, length};
 ghost use Rattle.rules.specs.Bytes.{same};
 ghost use Rattle.name.specs.Part.{part_of};
-ghost use Rattle.widths_table.specs.Slots.{name_at, slot_in};
+ghost use Rattle.widths_table.specs.Slots.{slot_in};
 
-pub fn wide(x: u32) -> usize
-    ensures { result ≡ x }
+use widths_table::FontName;
+
+// Whether a font has this name.
+pub fn is_named(list: &[u8], own: FontName, name: &[u8]) -> bool
+    ensures { result ≡ same (part_of list.now own.place own.len) name.now }
 {
-    x as usize
+    scan_lex::same_bytes(
+        name::name_at(list, own.place as usize, own.len as usize),
+        name,
+    )
 }
 
-// Whether the font in a slot has a name.
-fn is_named(list: &[u8], places: &[u32], lens: &[u32], i: usize, name: &[u8]) -> bool
-    requires { (i < length places.now) × (i < length lens.now) }
-    ensures { result ≡ same (name_at list.now places.now lens.now i) name.now }
-{
-    let own = name::name_at(list, wide(places[i]), wide(lens[i]));
-    scan_lex::same_bytes(own, name)
-}
-
-// The slot of the font with a name, 32 where there is none. The newest font is looked at first.
-pub fn slot_of(list: &[u8], places: &[u32], lens: &[u32], fonts: usize, name: &[u8]) -> usize
-    requires { (fonts ≤ length places.now) × (fonts ≤ length lens.now) }
-    ensures { result ≡ slot_in list.now places.now lens.now fonts name.now }
-{
-    let mut k = fonts;
-    while 0 < k {
-        let i = k - 1;
-        if is_named(list, places, lens, i, name) {
-            return i;
-        }
-        k = i;
-    }
-    32
-}
-
-// The same for the name that is a part of s.
+// The slot of the font whose name is a part of s, 32 where there is none. The newest font is looked at first. The names are two rows here,
+// as they stand in the reader's scratch row of numbers, which the definitions of a reading's state speak of.
+#[tactic(auto, unfolding(widths_table::specs::Slots::slot_in))]
 pub fn slot(
     list: &[u8],
     places: &[u32],
@@ -50,5 +33,15 @@ pub fn slot(
     requires { (fonts ≤ length places.now) × (fonts ≤ length lens.now) }
     ensures { result ≡ slot_in list.now places.now lens.now fonts (part_of s.now place len) }
 {
-    slot_of(list, places, lens, fonts, name::name_at(s, place, len))
+    let name = name::name_at(s, place, len);
+    for k in (0..fonts).rev() {
+        let own = FontName {
+            place: places[k],
+            len: lens[k],
+        };
+        if is_named(list, own, name) {
+            return k;
+        }
+    }
+    32
 }

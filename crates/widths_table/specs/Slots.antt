@@ -1,4 +1,4 @@
--- What the code looks at in place of the rules' fonts: the names' places and lengths in the list.
+-- What the reader looks at in place of the rules' fonts, in its scratch row: the names' places and lengths in the list.
 use Rattle.std.specs.Prelude.{ℕ, zero, suc, List, get_or, if◌then◌else◌}
 use Rattle.rules.specs.Bytes.{same}
 use Rattle.name.specs.Part.{part_of}

@@ -1,4 +1,4 @@
--- The width list as the code holds it: the table of widths, and the names of its fonts.
+-- The width list as the reader's scratch row holds it: the blocks of widths, and the names of the fonts, a row of places and one of lengths.
 use Rattle.std.specs.Prelude.{ℕ, ◌+◌, ◌*◌, ◌<◌, ◌≤◌, List, [], ◌∷◌, ◌≡◌, eqb, length, take, drop, get_or, if◌then◌else◌}
 use Rattle.std.proofs.Math.Option.{Option, none, some}
 use Rattle.rules.specs.Bytes.{same}

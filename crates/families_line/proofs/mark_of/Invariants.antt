@@ -1,10 +1,6 @@
-use Prim.Native.Nat.{◌-◌}
-use lib.ListN.{length}
-use Rattle.families_line.proofs.Steps.{Marking}
+use Rattle.std.proofs.Common.{◌≡◌, ◌<◌, drop}
+use Rattle.families_line.specs.Line.{mark_from, mark_of}
 use Rattle.families_line.proofs.mark_of.Given as goal
 
-abbrev pub invariant-loop-i : goal.invariant-loop-i
-invariant-loop-i l = Marking l.name l.i l.n
-
-abbrev pub decreases-loop-i : goal.decreases-loop-i
-decreases-loop-i l = length l.name - l.i
+abbrev pub invariant-loop-b : goal.invariant-loop-b
+invariant-loop-b l = (mark_of l.name ≡ mark_from l.n (drop l.b-index l.name)) × (l.n < 16384)

@@ -4,7 +4,7 @@ use Rattle.query.specs.Turns.{Going}
 use Rattle.query.proofs.load.Given as goal
 
 abbrev pub invariant-loop-st : goal.invariant-loop-st
-invariant-loop-st l = Going l.q l.st l.places l.lens l.gaps
+invariant-loop-st l = Going l.q l.st l.glyphs
 
 abbrev pub decreases-loop-st : goal.decreases-loop-st
 decreases-loop-st l = length l.q - l.st.at
