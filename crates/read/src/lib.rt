@@ -4,10 +4,15 @@
 
 ghost use Rattle.rules.specs.Calls.{ReadCall};
 
-use rules::{Entry, Reading, Record};
+use rules::{Entry, Reading, Record, Refusal};
 
 // The numbers of records, entries and pages, the end position and both colours; or a refusal, which leaves both rows as they were.
-pub fn read(s: &[u8], list: &[u8], records: &mut [Record], entries: &mut [Entry]) -> Reading
+pub fn read(
+    s: &[u8],
+    list: &[u8],
+    records: &mut [Record],
+    entries: &mut [Entry],
+) -> Result<Reading, Refusal>
     ensures { ReadCall s.now list.now records.old entries.old result records.new entries.new }
 {
     let mut ws = read_scratch::room();

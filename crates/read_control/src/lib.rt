@@ -1,16 +1,16 @@
-// A control's command: its entry, and the phase that it leads to (document 01, "Controls"; refusal 7), and what no rule reads.
+// A control's command: its entry, and the phase that it leads to (document 01, "Controls"; refusal 7).
 #![tactic(auto)]
 
 ghost use Rattle.std.specs.Prelude.{◌≡◌};
 ghost use Rattle.read_model.specs.declared.Emitted.TheVariants as E;
-ghost use Rattle.read_model.specs.Environment.{with_phase, refusing, doing, raw_here, control_here, in_body_or, phase_or, control_on};
+ghost use Rattle.read_model.specs.Environment.{doing, raw_here, control_here, in_body_or, control_on, onwards};
 ghost use Rattle.read_model.specs.Fits.{CommandIn};
 ghost use Rattle.read_environment.specs.Bounds.{Fits, Spans};
-ghost use Rattle.read_control.specs.Controlled.{late, controlled_at};
+ghost use Rattle.read_control.specs.Controlled.{controlled_at};
 
-use read_environment::{doing, in_body, refusing, shown, with_phase};
+use read_environment::{asked, doing, in_body, shown};
 use read_model::{Did, Emitted, Environment};
-use rules::Entry;
+use rules::{Entry, Refusal};
 use scan_command::Command;
 
 // The entry of a control from at to end: h and v are 0.
@@ -56,57 +56,42 @@ fn phase_on(
     letter: u32,
     at: usize,
     end: usize,
-) -> Did
+) -> Result<Did, Refusal>
     requires { Spans at end }
-    ensures { result ≡ phase_or e from (doing (with_phase e to quantum) (E.Entry (control_here e letter at end))) }
+    ensures { result ≡ onwards e from to quantum letter at end }
 {
-    if e.phase == from {
-        let x = control_here(e, letter, at, end);
-        doing(with_phase(e, to, quantum), Emitted::Entry(x))
-    } else {
-        refusing(e, 7)
-    }
+    asked(e.phase == from, 7, at)?;
+    let x = control_here(e, letter, at, end);
+    let next = Environment {
+        phase: to,
+        quantum,
+        ..e
+    };
+    doing(next, Emitted::Entry(x))
 }
 
 // `x F`, `x f` and the plain ones
-fn control_on(e: Environment, letter: u32, at: usize, end: usize) -> Did
+fn control_on(e: Environment, letter: u32, at: usize, end: usize) -> Result<Did, Refusal>
     requires { Spans at end }
-    ensures { result ≡ in_body_or e (control_on e letter at end) }
+    ensures { result ≡ in_body_or e at (control_on e letter at end) }
 {
-    if in_body(e) {
-        let x = control_here(e, letter, at, end);
-        doing(e, Emitted::Entry(x))
-    } else {
-        refusing(e, 7)
-    }
+    in_body(e, at)?;
+    let x = control_here(e, letter, at, end);
+    doing(e, Emitted::Entry(x))
 }
 
 // `x X`
-fn raw_on(e: Environment, at: usize, end: usize) -> Did
+fn raw_on(e: Environment, at: usize, end: usize) -> Result<Did, Refusal>
     requires { Fits e × Spans at end }
-    ensures { result ≡ in_body_or e (doing e (E.Entry (raw_here e at end))) }
+    ensures { result ≡ in_body_or e at (doing e (E.Entry (raw_here e at end))) }
 {
-    if in_body(e) {
-        let x = raw_here(e, at, end);
-        doing(e, Emitted::Entry(x))
-    } else {
-        refusing(e, 7)
-    }
+    in_body(e, at)?;
+    let x = raw_here(e, at, end);
+    doing(e, Emitted::Entry(x))
 }
 
-// A command that no rule reads: behind `x s` it is 7 as well.
-fn refused_on(e: Environment, n: u32) -> Did
-    ensures { result ≡ refusing e (late e n) }
-{
-    if e.phase == 4 {
-        refusing(e, 7)
-    } else {
-        refusing(e, n)
-    }
-}
-
-// A control that begins at a place, or what no rule reads. No other command comes here: the last arm is there for the match alone.
-pub fn controlled_on(e: Environment, at: usize, c: Command) -> Did
+// A control that begins at a place. No other command comes here: the last arm is there for the match alone.
+pub fn controlled_on(e: Environment, at: usize, c: Command) -> Result<Did, Refusal>
     requires { Fits e × CommandIn at 16777216 c }
     ensures { result ≡ controlled_at e at c }
 {
@@ -120,7 +105,9 @@ pub fn controlled_on(e: Environment, at: usize, c: Command) -> Did
         Command::Plain { letter, next } => control_on(e, letter, at, next),
         Command::Raw { next } => raw_on(e, at, next),
         Command::Stop { next } => phase_on(e, 3, 4, q, 115, at, next),
-        Command::Refused { number, .. } => refused_on(e, number),
-        _ => refusing(e, 7),
+        _ => Err(Refusal {
+            number: 7,
+            offset: at,
+        }),
     }
 }

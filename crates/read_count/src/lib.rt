@@ -3,23 +3,24 @@
 
 ghost use Rattle.std.specs.Prelude.{true, ◌≡◌, ◌-◌, ◌≤◌, ◌<◌};
 ghost use Rattle.read_model.specs.declared.Emitted.TheVariants as E;
-ghost use Rattle.read_model.specs.Turns.{halted_at, gone_to, filling, emitted, point_of, done_of, skipped};
+ghost use Rattle.read_model.specs.Turns.{halted_by, gone_to, filling, emitted, done_of, skipped};
 ghost use Rattle.read_count.specs.Room.{has_room};
 
 use read_model::{Did, Effect, Emitted, Environment, State, Turned, Word};
-use rules::{Entry, Record};
+use rules::{Entry, Record, Refusal};
 
-// The state that stops with the refusal k, which points at a place.
-fn halted(at: usize, st: State, k: u32) -> Turned
-    ensures { result ≡ halted_at at st k }
+// The state that stops with a refusal, at the place that it points at.
+pub fn halted(st: State, r: Refusal) -> Turned
+    ensures { result ≡ halted_by st r }
 {
-    let mut d = st;
-    d.left = 0;
-    d.at = at;
-    d.refusal = k;
     Turned {
         effect: Effect::Nothing,
-        state: d,
+        state: State {
+            left: 0,
+            at: r.offset,
+            refusal: r.number,
+            ..st
+        },
     }
 }
 
@@ -35,13 +36,14 @@ fn gone_to(
     requires { next ≤ n }
     ensures { result ≡ gone_to n st next records entries e }
 {
-    let mut d = st;
-    d.left = n - next;
-    d.at = next;
-    d.records = records;
-    d.entries = entries;
-    d.env = e;
-    d
+    State {
+        left: n - next,
+        at: next,
+        records,
+        entries,
+        env: e,
+        ..st
+    }
 }
 
 pub fn skipped(n: usize, st: State, next: usize) -> Turned
@@ -127,30 +129,32 @@ fn put_out(n: usize, st: State, next: usize, e: Environment, x: Emitted) -> Turn
     }
 }
 
-// Where the refusal k of the command at a place points: 6 at an argument, whose place is next; any other at the command.
-fn point(at: usize, next: usize, k: u32) -> usize
-    ensures { result ≡ point_of at next k }
+// The state behind a command, at next; or 13 where a row has no room. Room is asked for before the new state is made: a function that
+// copies the environment from one of two places in the same way keeps the whole state in memory, at a great cost in time.
+fn given(n: usize, st: State, next: usize, d: Did) -> Turned
+    requires { (next ≤ n) × (st.records ≤ st.rmax) }
+    ensures { result ≡ emitted n st next d.env d.emitted }
 {
-    if k == 6 { next } else { at }
+    if has_room(st, d.emitted) {
+        put_out(n, st, next, d.env, d.emitted)
+    } else {
+        halted(
+            st,
+            Refusal {
+                number: 13,
+                offset: st.at,
+            },
+        )
+    }
 }
 
-// The state behind a command, at next; or its refusal (6 has next as its place), or 13 where a row has no room. Room is asked for before
-// the new state is made: a function that copies the environment from one of two places in the same way keeps the whole state in memory,
-// at a great cost in time.
-pub fn done(n: usize, st: State, next: usize, d: Did) -> Turned
+// The state behind a command, or its refusal.
+pub fn done(n: usize, st: State, next: usize, d: Result<Did, Refusal>) -> Turned
     requires { (next ≤ n) × (st.records ≤ st.rmax) }
     ensures { result ≡ done_of n st next d }
 {
-    if d.refusal == 0 {
-        let e = d.env;
-        let x = d.emitted;
-        if has_room(st, x) {
-            put_out(n, st, next, e, x)
-        } else {
-            halted(st.at, st, 13)
-        }
-    } else {
-        let at = point(st.at, next, d.refusal);
-        halted(at, st, d.refusal)
+    match d {
+        Ok(did) => given(n, st, next, did),
+        Err(r) => halted(st, r),
     }
 }

@@ -8,9 +8,9 @@ ghost use Rattle.read_model.specs.Fits.{CommandIn};
 ghost use Rattle.read_environment.specs.Bounds.{Fits, Spans};
 ghost use Rattle.read_drawing.specs.Drawn.{drawn_at};
 
-use read_environment::{colour_here, doing, gone, on_page, refusing, shown, with_paint, with_spot};
+use read_environment::{colour_here, doing, gone, on_page, placed, shown};
 use read_model::{Did, Emitted, Environment};
-use rules::{Colour, Entry};
+use rules::{Colour, Entry, Refusal};
 use scan_command::Command;
 
 // The entry of a drawing from at to end, where the environment stands.
@@ -31,26 +31,25 @@ fn drawing_here(e: Environment, letter: u32, scheme: u32, at: usize, end: usize)
 }
 
 // The numbers are sums of so many terms, all moved up.
-fn draw_on(e: Environment, letter: u32, dh: u64, dv: u64, terms: u64, at: usize, end: usize) -> Did
+fn draw_on(
+    e: Environment,
+    letter: u32,
+    dh: u64,
+    dv: u64,
+    terms: u64,
+    at: usize,
+    end: usize,
+) -> Result<Did, Refusal>
     requires fits { Fits e × Spans at end }
     requires dh_bound { (dh ≤ terms * (2 * origin)) × (dv ≤ terms * (2 * origin)) × (terms ≤ 64) }
-    ensures { result ≡ on_page_or e (draw_on e letter dh dv terms at end) }
+    ensures { result ≡ on_page_or e at (draw_on e letter dh dv terms at end) }
 {
-    if on_page(e) {
-        let base = terms * 100_000_000;
-        let h = gone(base, (e.h as u64) + dh);
-        let v = gone(base, (e.v as u64) + dv);
-        if h == 0 {
-            return refusing(e, 10);
-        }
-        if v == 0 {
-            return refusing(e, 10);
-        }
-        let x = drawing_here(e, letter, 0, at, end);
-        doing(with_spot(e, h, v), Emitted::Entry(x))
-    } else {
-        refusing(e, 7)
-    }
+    on_page(e, at)?;
+    let base = terms * 100_000_000;
+    let h = placed(gone(base, (e.h as u64) + dh), at)?;
+    let v = placed(gone(base, (e.v as u64) + dv), at)?;
+    let x = drawing_here(e, letter, 0, at, end);
+    doing(Environment { h, v, ..e }, Emitted::Entry(x))
 }
 
 // The colour of `Df`: 0 to 1000 is white to black, any other number is the glyph colour.
@@ -68,35 +67,35 @@ fn gray_colour(ink: Colour, n: u32) -> Colour
 }
 
 // `Df`
-fn gray_on(e: Environment, n: u32, at: usize, end: usize) -> Did
+fn gray_on(e: Environment, n: u32, at: usize, end: usize) -> Result<Did, Refusal>
     requires { Fits e × Spans at end }
-    ensures { result ≡ on_page_or e (gray_on e n at end) }
+    ensures { result ≡ on_page_or e at (gray_on e n at end) }
 {
-    if on_page(e) {
-        let ink = e.ink;
-        let gray = gray_colour(ink, n);
-        let x = drawing_here(e, 102, 0, at, end);
-        doing(with_paint(e, gray), Emitted::Entry(x))
-    } else {
-        refusing(e, 7)
-    }
+    on_page(e, at)?;
+    let ink = e.ink;
+    let gray = gray_colour(ink, n);
+    let x = drawing_here(e, 102, 0, at, end);
+    doing(Environment { paint: gray, ..e }, Emitted::Entry(x))
 }
 
 // `DF`
-fn fill_on(e: Environment, scheme: u32, paint: Colour, at: usize, end: usize) -> Did
+fn fill_on(
+    e: Environment,
+    scheme: u32,
+    paint: Colour,
+    at: usize,
+    end: usize,
+) -> Result<Did, Refusal>
     requires { Fits e × Spans at end }
-    ensures { result ≡ on_page_or e (fill_on e scheme paint at end) }
+    ensures { result ≡ on_page_or e at (fill_on e scheme paint at end) }
 {
-    if on_page(e) {
-        let x = drawing_here(e, 70, scheme, at, end);
-        doing(with_paint(e, paint), Emitted::Entry(x))
-    } else {
-        refusing(e, 7)
-    }
+    on_page(e, at)?;
+    let x = drawing_here(e, 70, scheme, at, end);
+    doing(Environment { paint, ..e }, Emitted::Entry(x))
 }
 
 // A drawing that begins at a place. No other command comes here: the last arm is there for the match alone.
-pub fn drawn_on(e: Environment, at: usize, c: Command) -> Did
+pub fn drawn_on(e: Environment, at: usize, c: Command) -> Result<Did, Refusal>
     requires { Fits e × CommandIn at 16777216 c }
     ensures { result ≡ drawn_at e at c }
 {
@@ -117,6 +116,9 @@ pub fn drawn_on(e: Environment, at: usize, c: Command) -> Did
             d,
             next,
         } => fill_on(e, scheme, colour_here(scheme, a, b, c, d), at, next),
-        _ => refusing(e, 7),
+        _ => Err(Refusal {
+            number: 7,
+            offset: at,
+        }),
     }
 }

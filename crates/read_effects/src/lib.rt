@@ -13,29 +13,37 @@ use read_glyph::{glyph_on, index_on, pair_on};
 use read_model::{Did, Environment};
 use read_motion::{by_on, font_on, gap_on, ink_on, page_on, size_on, to_on};
 use read_word::word_on;
+use rules::Refusal;
 use scan_command::Command;
 
 // One command that begins at a place: refusal 7 comes first, then 8, 9, 10. u is the unitwidth, ws the scratch row.
-pub fn did(s: &[u8], ws: &[u32], u: u32, e: Environment, at: usize, c: Command) -> Did
+pub fn did(
+    s: &[u8],
+    ws: &[u32],
+    u: u32,
+    e: Environment,
+    at: usize,
+    c: Command,
+) -> Result<Did, Refusal>
     requires env_fits { EnvFits at e × CommandIn at (length s.now) c × (at < length s.now) }
     requires s_len_bound { (length s.now ≤ 16777216) × (1 ≤ u) × (u ≤ 100000) × Small ws.now }
     ensures { result ≡ did_at s.now ws.now u e at c }
 {
     match c {
-        Command::Glyph { place, len, .. } => glyph_on(e, place, len),
-        Command::Index { number, .. } => index_on(e, number),
+        Command::Glyph { place, len, .. } => glyph_on(e, at, place, len),
+        Command::Index { number, .. } => index_on(e, at, number),
         Command::Word {
             track,
             place,
             end,
             ..
-        } => word_on(s, ws, u, e, track, place, end),
-        Command::Pair { number, place, .. } => pair_on(e, number, place),
-        Command::To { axis, number, .. } => to_on(e, axis, number),
-        Command::By { axis, number, .. } => by_on(e, axis, number),
-        Command::Page { number, .. } => page_on(e, number),
-        Command::Font { position, .. } => font_on(e, position, value_at(ws, position as usize)),
-        Command::Size { size, .. } => size_on(e, size),
+        } => word_on(s, ws, u, e, at, track, place, end),
+        Command::Pair { number, place, .. } => pair_on(e, at, number, place),
+        Command::To { axis, number, .. } => to_on(e, at, axis, number),
+        Command::By { axis, number, .. } => by_on(e, at, axis, number),
+        Command::Page { number, .. } => page_on(e, at, number),
+        Command::Font { position, .. } => font_on(e, at, position, value_at(ws, position as usize)),
+        Command::Size { size, .. } => size_on(e, at, size),
         Command::Colour {
             scheme,
             a,
@@ -43,9 +51,9 @@ pub fn did(s: &[u8], ws: &[u32], u: u32, e: Environment, at: usize, c: Command) 
             c,
             d,
             ..
-        } => ink_on(e, colour_here(scheme, a, b, c, d)),
-        Command::Break { .. } => gap_on(e),
-        Command::Space { .. } => gap_on(e),
+        } => ink_on(e, at, colour_here(scheme, a, b, c, d)),
+        Command::Break { .. } => gap_on(e, at),
+        Command::Space { .. } => gap_on(e, at),
         Command::Draw { .. } | Command::Gray { .. } | Command::Fill { .. } => drawn_on(e, at, c),
         _ => controlled_on(e, at, c),
     }

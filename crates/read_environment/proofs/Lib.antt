@@ -1,4 +1,1 @@
-pub mod Bias
-pub mod Tests
 pub mod Answers
-pub mod Helpers

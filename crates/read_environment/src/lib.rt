@@ -1,87 +1,15 @@
-// The environment's parts set anew, what a command did, and the helpers that every command's effect rests on. The definitions stand in
-// read_model's specs/.
+// What every command's effect rests on: what it asks of the environment, and numbers. The definitions stand in read_model's specs/.
 #![tactic(auto)]
 
-ghost use Rattle.std.specs.Prelude.{◌≡◌, ◌-◌, ◌*◌, ◌≤◌, ◌<◌, get_or};
+ghost use Rattle.std.specs.Prelude.{◌≡◌, ◌*◌, ◌≤◌, ◌<◌, get_or};
 ghost use Rattle.rules.specs.Bytes.{origin};
 ghost use Rattle.rules.specs.Record.{shown};
-ghost use Rattle.read_model.specs.Environment.{with_phase, with_page, with_spot, with_font, with_size, with_gap, with_ink, with_paint, refusing, doing, in_body, on_page, is_set, colour_here};
-ghost use Rattle.read_environment.specs.Parts.{gone_to, lack_of};
+ghost use Rattle.rules.specs.Answers.{asked};
+ghost use Rattle.read_model.specs.Environment.{doing, in_body, on_page, gone, placed_or, colour_here};
+ghost use Rattle.read_environment.specs.Parts.{lack_of};
 
 use read_model::{Did, Emitted, Environment};
-use rules::Colour;
-
-// ---- parts of the environment set anew
-
-pub fn with_phase(e: Environment, phase: u32, quantum: u32) -> Environment
-    ensures { result ≡ with_phase e phase quantum }
-{
-    let mut d = e;
-    d.phase = phase;
-    d.quantum = quantum;
-    d
-}
-
-// v goes back to its origin, and a gap stands before the first record.
-pub fn with_page(e: Environment, ordinal: u32, number: u32) -> Environment
-    ensures { result ≡ with_page e ordinal number }
-{
-    let mut d = e;
-    d.ordinal = ordinal;
-    d.number = number;
-    d.v = 100_000_000;
-    d.gap = 1;
-    d
-}
-
-pub fn with_spot(e: Environment, h: u32, v: u32) -> Environment
-    ensures { result ≡ with_spot e h v }
-{
-    let mut d = e;
-    d.h = h;
-    d.v = v;
-    d
-}
-
-pub fn with_font(e: Environment, font: u32) -> Environment
-    ensures { result ≡ with_font e font }
-{
-    let mut d = e;
-    d.font = font;
-    d
-}
-
-pub fn with_size(e: Environment, size: u32) -> Environment
-    ensures { result ≡ with_size e size }
-{
-    let mut d = e;
-    d.size = size;
-    d
-}
-
-pub fn with_gap(e: Environment, gap: u32) -> Environment
-    ensures { result ≡ with_gap e gap }
-{
-    let mut d = e;
-    d.gap = gap;
-    d
-}
-
-pub fn with_ink(e: Environment, ink: Colour) -> Environment
-    ensures { result ≡ with_ink e ink }
-{
-    let mut d = e;
-    d.ink = ink;
-    d
-}
-
-pub fn with_paint(e: Environment, paint: Colour) -> Environment
-    ensures { result ≡ with_paint e paint }
-{
-    let mut d = e;
-    d.paint = paint;
-    d
-}
+use rules::{Colour, Refusal};
 
 pub fn colour_here(scheme: u32, a: u32, b: u32, c: u32, d: u32) -> Colour
     ensures { result ≡ colour_here scheme a b c d }
@@ -94,54 +22,43 @@ pub fn colour_here(scheme: u32, a: u32, b: u32, c: u32, d: u32) -> Colour
 
 // ---- what was done
 
-pub fn refusing(e: Environment, n: u32) -> Did
-    ensures { result ≡ refusing e n }
+// What a test asks for, or this refusal.
+pub fn asked(test: bool, number: u32, at: usize) -> Result<(), Refusal>
+    ensures { result ≡ asked test number at }
 {
-    Did {
-        refusal: n,
-        env: e,
-        emitted: Emitted::Nothing,
+    if test {
+        Ok(())
+    } else {
+        Err(Refusal { number, offset: at })
     }
 }
 
-pub fn doing(e: Environment, x: Emitted) -> Did
+pub fn doing(e: Environment, x: Emitted) -> Result<Did, Refusal>
     ensures { result ≡ doing e x }
 {
-    Did {
-        refusal: 0,
-        env: e,
-        emitted: x,
-    }
+    Ok(Did { env: e, emitted: x })
 }
 
-pub fn in_body(e: Environment) -> bool
-    ensures { result ≡ in_body e }
+// The command at a place stands in the body, or it is refused with 7.
+pub fn in_body(e: Environment, at: usize) -> Result<(), Refusal>
+    ensures { result ≡ asked (in_body e) 7 at }
 {
-    e.phase == 3
+    asked(e.phase == 3, 7, at)
 }
 
-pub fn on_page(e: Environment) -> bool
-    ensures { result ≡ on_page e }
+// It stands on a page, or 7.
+pub fn on_page(e: Environment, at: usize) -> Result<(), Refusal>
+    ensures { result ≡ asked (on_page e) 7 at }
 {
-    (e.phase == 3) & (0 < e.ordinal)
+    asked((e.phase == 3) & (0 < e.ordinal), 7, at)
 }
 
-// Whether a font and a size are there.
-fn is_set(e: Environment) -> bool
-    ensures { result ≡ is_set e }
+// A glyph's command: 7 off a page, then 8 with no font or size.
+pub fn lack(e: Environment, at: usize) -> Result<(), Refusal>
+    ensures { result ≡ lack_of e at }
 {
-    (0 < e.font) & (0 < e.size)
-}
-
-// The refusal of a glyph's command, 0 for none: 7 off a page, 8 with no font or size.
-pub fn lack(e: Environment) -> u32
-    ensures { result ≡ lack_of e }
-{
-    if on_page(e) {
-        if is_set(e) { 0 } else { 8 }
-    } else {
-        7
-    }
+    on_page(e, at)?;
+    asked((0 < e.font) & (0 < e.size), 8, at)
 }
 
 // ---- numbers
@@ -154,27 +71,29 @@ pub fn shown(n: u32) -> i32
     (n as i32) - 100_000_000
 }
 
-pub fn one_less(n: u32) -> u32
-    ensures { result ≡ n - 1 }
-{
-    if n == 0 { 0 } else { n - 1 }
-}
-
-// How far a sum lies behind base: a position moved up, or 0 where it is beyond the limit.
-pub fn gone(base: u64, sum: u64) -> u32
+// How far a sum lies behind base: a position moved up, where it is within the limit.
+pub fn gone(base: u64, sum: u64) -> Option<u32>
     requires { base ≤ 6400000000 }
-    ensures { result ≡ gone_to base sum }
+    ensures { result ≡ gone base sum }
 {
-    if sum <= base {
-        return 0;
+    if (base < sum) & (sum < base + 200_000_000) {
+        Some((sum - base) as u32)
+    } else {
+        None
     }
-    if base + 200_000_000 <= sum {
-        return 0;
-    }
-    (sum - base) as u32
 }
 
-// What a row of numbers holds at a place, 0 behind its end.
+// A position, or refusal 10 of the command at a place.
+pub fn placed(h: Option<u32>, at: usize) -> Result<u32, Refusal>
+    ensures { result ≡ placed_or h at }
+{
+    h.ok_or(Refusal {
+        number: 10,
+        offset: at,
+    })
+}
+
+// What a row of numbers holds at a place, 0 behind its end. (`get` with `unwrap_or` says it no plainer.)
 pub fn value_at(ws: &[u32], i: usize) -> u32
     ensures { result ≡ get_or ws.now i 0 }
 {

@@ -5,9 +5,9 @@ ghost use Rattle.std.specs.Prelude.{◌≡◌, ◌+◌, ◌≤◌};
 ghost use Rattle.read_model.specs.Environment.{record_here, record_on, glyph_on, on_page_or, index_on, pair_on};
 ghost use Rattle.read_environment.specs.Bounds.{Fits};
 
-use read_environment::{doing, gone, lack, one_less, refusing, shown, with_gap, with_spot};
+use read_environment::{doing, gone, lack, placed, shown};
 use read_model::{Did, Emitted, Environment};
-use rules::Record;
+use rules::{Record, Refusal};
 
 // The record of a glyph where the environment stands.
 fn record_here(e: Environment, place: u32, len: u32, index: u32) -> Record
@@ -19,7 +19,7 @@ fn record_here(e: Environment, place: u32, len: u32, index: u32) -> Record
         page: shown(e.number),
         h: shown(e.h),
         v: shown(e.v),
-        font: one_less(e.font),
+        font: e.font.saturating_sub(1),
         size: e.size,
         place,
         len,
@@ -29,58 +29,42 @@ fn record_here(e: Environment, place: u32, len: u32, index: u32) -> Record
 }
 
 // A record, and no gap behind it.
-fn record_on(e: Environment, place: u32, len: u32, index: u32) -> Did
+fn record_on(e: Environment, place: u32, len: u32, index: u32) -> Result<Did, Refusal>
     requires { Fits e }
     ensures { result ≡ record_on e place len index }
 {
     let x = record_here(e, place, len, index);
-    doing(with_gap(e, 0), Emitted::Record(x))
+    doing(Environment { gap: 0, ..e }, Emitted::Record(x))
 }
 
 // `c`, `C`
-pub fn glyph_on(e: Environment, place: usize, len: usize) -> Did
+pub fn glyph_on(e: Environment, at: usize, place: usize, len: usize) -> Result<Did, Refusal>
     requires { Fits e × (place + len ≤ 16777216) }
-    ensures { result ≡ on_page_or e (glyph_on e place len) }
+    ensures { result ≡ on_page_or e at (glyph_on e at place len) }
 {
-    let k = lack(e);
-    if k == 0 {
-        record_on(e, place as u32, len as u32, 0)
-    } else {
-        refusing(e, k)
-    }
+    lack(e, at)?;
+    record_on(e, place as u32, len as u32, 0)
 }
 
 // `N`: a number below 0 is a space.
-pub fn index_on(e: Environment, n: u32) -> Did
+pub fn index_on(e: Environment, at: usize, n: u32) -> Result<Did, Refusal>
     requires { Fits e }
-    ensures { result ≡ on_page_or e (index_on e n) }
+    ensures { result ≡ on_page_or e at (index_on e at n) }
 {
-    let k = lack(e);
-    if k == 0 {
-        if n < 100_000_000 {
-            doing(with_gap(e, 1), Emitted::Nothing)
-        } else {
-            record_on(e, 0, 0, n - 100_000_000)
-        }
+    lack(e, at)?;
+    if n < 100_000_000 {
+        doing(Environment { gap: 1, ..e }, Emitted::Nothing)
     } else {
-        refusing(e, k)
+        record_on(e, 0, 0, n - 100_000_000)
     }
 }
 
 // Two digits: h moves first.
-pub fn pair_on(e: Environment, n: u32, place: usize) -> Did
+pub fn pair_on(e: Environment, at: usize, n: u32, place: usize) -> Result<Did, Refusal>
     requires { Fits e × (place ≤ 16777216) }
-    ensures { result ≡ on_page_or e (pair_on e n place) }
+    ensures { result ≡ on_page_or e at (pair_on e at n place) }
 {
-    let k = lack(e);
-    if k == 0 {
-        let h = gone(100_000_000, (e.h as u64) + (n as u64));
-        if h == 0 {
-            refusing(e, 10)
-        } else {
-            record_on(with_spot(e, h, e.v), place as u32, 1, 0)
-        }
-    } else {
-        refusing(e, k)
-    }
+    lack(e, at)?;
+    let h = placed(gone(100_000_000, (e.h as u64) + (n as u64)), at)?;
+    record_on(Environment { h, ..e }, place as u32, 1, 0)
 }

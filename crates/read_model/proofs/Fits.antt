@@ -1,33 +1,38 @@
 -- Every command that is scanned is within the bounds, and every command keeps the environment within them.
-use Rattle.std.specs.Prelude.{if◌then◌else◌}
+use Rattle.std.specs.Prelude.{Option, Some, None, Result, Ok, Err, if◌then◌else◌}
 use Prim.Native.Nat.{ℕ, zero, suc, ◌+◌, ◌*◌, ◌-◌, ◌<◌, ◌≤◌}
 use native.Mathlib.Omega.{arith}
 use mathlib.Core.Bool.{Bool, true, false, ◌&&◌}
 use mathlib.Core.List.{List, [], ◌∷◌, map}
-use mathlib.Core.Path.{◌≡◌, refl, sym}
+use mathlib.Core.Path.{◌≡◌, refl}
 use lib.Dec.{ltb, eqb}
 use lib.ListN.{length, drop, get_or, length-drop}
 use borrow.Author.Tests.{ltb-true}
+use Rattle.rules.specs.declared.Refusal.{Refusal}
+use Rattle.rules.specs.Answers.{and_then}
 use Rattle.rules.specs.Bytes.{origin, most, within, near}
 use Rattle.rules.specs.Act.{Shape, line, arc, circle, solid_circle, ellipse, solid_ellipse, polygon, solid_polygon, spline, thickness, gray_fill, colour_fill, Act, glyph, index, to, by, page, font, size, colour, break, space, draw, device, resolution, init, file, mount, plain, raw, stop, Cmd, just, word, pair}
 use Rattle.rules.specs.Drawing.{Way, pairwise, first_across, way_of}
 use Rattle.rules.specs.Scan.{Scan, name_of, name_in, got, bad, is_name, is_position, is_positive, is_gray, up_to, command}
+use Rattle.scan_command.specs.declared.Axis.{Axis}
+use Rattle.scan_command.specs.declared.Axis.TheVariants.{Across, Down}
 use Rattle.scan_command.specs.declared.Command.{Command}
 use Rattle.scan_command.specs.declared.Command.TheVariants as C
 use Rattle.rules.specs.declared.Colour.{Colour}
 use Rattle.scan_command.specs.View.{draw_of, act_of, cmd_of, command_of, command_at}
-use Rattle.laws.proofs.Cases.{no, if_both, if_on, and_left, and_right, not_zero}
+use Rattle.laws.proofs.Cases.{on, if_both, if_on, and_left, and_right}
 use Rattle.laws.proofs.Good.{all_true, Good, GoodCmd}
 use Rattle.laws.proofs.Limits.{within_bounds, up_to-near, up_to_few}
 use Rattle.laws_scan.proofs.Fair.{GoodScan, command_good}
 use Rattle.laws_scan.proofs.Bounds.{Within, command_in}
 use Rattle.read_model.specs.declared.Environment.{Environment}
 use Rattle.read_model.specs.declared.Did.{Did}
+use Rattle.read_model.specs.declared.Emitted.TheVariants as E
 use Rattle.read_model.specs.declared.Word.{Word}
-use Rattle.read_model.specs.Environment.{refusing, with_gap, with_spot, with_paint, with_phase, colour_here, gray_colour, on_page, in_body, is_set, may_move, may_go, to_on, by_on, draw_on}
-use Rattle.read_model.specs.Words.{all_wide, far_at, word_next, word_end, word_here, word_on}
+use Rattle.read_model.specs.Environment.{with_gap, with_spot, with_paint, with_phase, with_along, colour_here, gray_colour, on_page, in_body, is_set, may_move, along, gone, placed_or, doing, record_on, drawing_here}
+use Rattle.read_model.specs.Words.{all_wide, far_at, word_next, word_end, word_here, word_to, word_on}
 use Rattle.read_model.specs.Turns.{mount_at, block_now, did_at, next_of}
-use Rattle.read_model.specs.Fits.{EnvFits, Ends, CommandIn, is_refused}
+use Rattle.read_model.specs.Fits.{EnvFits, Ends, CommandIn, ScannedIn}
 
 -- a number within limits that are below twice the origin
 within-most : (lo hi n : ℕ) → within lo hi n ≡ true → n ≤ hi
@@ -121,11 +126,11 @@ module _ (at n q : ℕ) (z : Ends at n q) where
   cmd_in p (word t bs) g b l = (z, omega (arith, within-most (origin - most) (origin + most) t (and_left (near t) true g.0)), b, omega (arith, g.1.some), l)
   cmd_in p (pair i x) g b l = (z, omega (arith, g.1.1), omega arith)
 
-pub command-fits : (s : List ℕ) (at : ℕ) → at < length s → CommandIn at (length s) (command_at s at)
+pub command-fits : (s : List ℕ) (at : ℕ) → at < length s → ScannedIn at (length s) (command_at s at)
 unfolding command_at
 command-fits s at h = go (command (get_or s at 0) (drop (at + 1) s)) (command_good (get_or s at 0) (drop (at + 1) s)) (command_in (get_or s at 0) (drop (at + 1) s))
   where
-    go : (x : Scan) → GoodScan x → Within (get_or s at 0 ∷ drop (at + 1) s) x → CommandIn at (length s) (command_of at x)
+    go : (x : Scan) → GoodScan x → Within (get_or s at 0 ∷ drop (at + 1) s) x → ScannedIn at (length s) (command_of at x)
     go (bad k j) g w = (g, omega arith, omega (arith, w, length-drop (at + 1) s))
     go (got c a l) g w =
         cmd_in at (length s) (at + l) (omega (arith, w.some), omega (arith, w.most, length-drop (at + 1) s)) (at + a) c g (omega arith) (omega (arith, w.name))
@@ -135,102 +140,104 @@ command-fits s at h = go (command (get_or s at 0) (drop (at + 1) s)) (command_go
 pub later : (at q : ℕ) (e : Environment) → at ≤ q → EnvFits at e → EnvFits q e
 later at q e l f = record { h_some = f.h_some; h_most = f.h_most; v_some = f.v_some; v_most = f.v_most; number = f.number; ordinal = omega (arith, f.ordinal); size = f.size; quantum_some = f.quantum_some; quantum_most = f.quantum_most; font = f.font }
 
-module _ (s ws : List ℕ) (u at n q : ℕ) (e : Environment) (f : EnvFits at e) (z : Ends at n q) where
-  -- the environment of what was done
-  abbrev Kept : Did → Type 0
-  Kept d = EnvFits q d.env
+-- where a word ends
+abbrev EndIn : Option ℕ → Type 0
+EndIn None = Unit {0}
+EndIn (Some x) = (0 < x) × (x < 2 * origin)
 
-  same : EnvFits q e
-  same = later at q e (omega (arith, z.0)) f
+word_in : (s ws : List ℕ) (k : ℕ) (d : Word) → 0 < d.h → d.h < 2 * origin → EndIn (word_end k s ws d)
+unfolding word_end
+word_in s ws zero d a b = (a, b)
+word_in s ws (suc k) d a b =
+    if_on EndIn (may_move d.h (far_at s ws d)) _ None
+    (λ m.
+    let i : origin < d.h + far_at s ws d = ltb-true origin (d.h + far_at s ws d) (and_left (ltb origin (d.h + far_at s ws d)) (ltb (d.h + far_at s ws d) (3 * origin)) m) in
+    let j : d.h + far_at s ws d < 3 * origin = ltb-true (d.h + far_at s ws d) (3 * origin) (and_right (ltb origin (d.h + far_at s ws d)) (ltb (d.h + far_at s ws d) (3 * origin)) m) in
+    word_in s ws k (word_next s ws d) (omega arith) (omega arith))
+    (λ m. tt)
 
-  or_kept : (b : Bool) (x : Did) (k : ℕ) → (b ≡ true → Kept x) → Kept (if b then x else refusing e k)
-  or_kept true x k g = g refl
-  or_kept false x k g = same
+-- what was done leaves the environment within the bounds at q
+module _ (q : ℕ) where
+  abbrev pub Kept : Result Did Refusal → Type 0
+  Kept (Ok d) = EnvFits q d.env
+  Kept (Err r) = Unit {0}
 
-  gap_kept : (g : ℕ) → EnvFits q (with_gap e g)
-  gap_kept g = record { h_some = f.h_some; h_most = f.h_most; v_some = f.v_some; v_most = f.v_most; number = f.number; ordinal = same.ordinal; size = f.size; quantum_some = f.quantum_some; quantum_most = f.quantum_most; font = f.font }
+  -- behind a test that may refuse
+  or_kept : {A : Type 0} (b : Bool) (a : A) (r : Refusal) (g : A → Result Did Refusal) → Kept (g a) → Kept (and_then (if b then Ok a else Err r) g)
+  or_kept true a r g k = k
+  or_kept false a r g k = tt
 
-  spot_kept : (h v g : ℕ) → 0 < h → h < 2 * origin → 0 < v → v < 2 * origin → EnvFits q (with_gap (with_spot e h v) g)
-  spot_kept h v g a b c d = record { h_some = a; h_most = b; v_some = c; v_most = d; number = f.number; ordinal = same.ordinal; size = f.size; quantum_some = f.quantum_some; quantum_most = f.quantum_most; font = f.font }
+  -- behind a place that may lie beyond the limit
+  placed_kept : (base sum i : ℕ) (g : ℕ → Result Did Refusal) → ((x : ℕ) → 0 < x → x < 2 * origin → Kept (g x)) → Kept (and_then (placed_or (gone base sum) i) g)
+  placed_kept base sum i g k =
+      on (ltb base sum && ltb sum (base + 2 * origin))
+      (λ m.
+      let a : base < sum = ltb-true base sum (and_left (ltb base sum) (ltb sum (base + 2 * origin)) m) in
+      let b : sum < base + 2 * origin = ltb-true sum (base + 2 * origin) (and_right (ltb base sum) (ltb sum (base + 2 * origin)) m) in
+      rw m (k (sum - base) (omega arith) (omega arith)))
+      (λ m. rw m tt)
 
-  move_in : (x i : ℕ) → may_move x i ≡ true → (0 < x + i - origin) × (x + i - origin < 2 * origin)
-  move_in x i m =
-      let a : origin < x + i = ltb-true origin (x + i) (and_left (ltb origin (x + i)) (ltb (x + i) (3 * origin)) m) in
-      let b : x + i < 3 * origin = ltb-true (x + i) (3 * origin) (and_right (ltb origin (x + i)) (ltb (x + i) (3 * origin)) m) in
-      (omega arith, omega arith)
+module _ (s ws : List ℕ) (u at n : ℕ) (e : Environment) (f : EnvFits at e) where
+  module _ (q : ℕ) (z : Ends at n q) where
+    same : EnvFits q e
+    same = later at q e (omega (arith, z.0)) f
 
-  go_in : (k x i : ℕ) → may_go k x i ≡ true → (0 < x + i - k * origin) × (x + i - k * origin < 2 * origin)
-  go_in k x i m =
-      let a : k * origin < x + i = ltb-true (k * origin) (x + i) (and_left (ltb (k * origin) (x + i)) (ltb (x + i) (k * origin + 2 * origin)) m) in
-      let b : x + i < k * origin + 2 * origin = ltb-true (x + i) (k * origin + 2 * origin) (and_right (ltb (k * origin) (x + i)) (ltb (x + i) (k * origin + 2 * origin)) m) in
-      (omega arith, omega arith)
+    gap_kept : (g : ℕ) → EnvFits q (with_gap e g)
+    gap_kept g = record { h_some = f.h_some; h_most = f.h_most; v_some = f.v_some; v_most = f.v_most; number = f.number; ordinal = same.ordinal; size = f.size; quantum_some = f.quantum_some; quantum_most = f.quantum_most; font = f.font }
 
-  word_most : (k : ℕ) (d : Word) → d.h < 2 * origin → word_end k s ws d < 2 * origin
-  unfolding word_end
-  word_most zero d h = h
-  word_most (suc k) d h =
-      if_on (λ (x : ℕ). x < 2 * origin) (may_move d.h (far_at s ws d)) _ 0 (λ m. word_most k (word_next s ws d) (move_in d.h (far_at s ws d) m).1) (λ m. omega arith)
+    spot_kept : (h v g : ℕ) → 0 < h → h < 2 * origin → 0 < v → v < 2 * origin → EnvFits q (with_gap (with_spot e h v) g)
+    spot_kept h v g a b c d = record { h_some = a; h_most = b; v_some = c; v_most = d; number = f.number; ordinal = same.ordinal; size = f.size; quantum_some = f.quantum_some; quantum_most = f.quantum_most; font = f.font }
 
-  word_kept : (t k p block : ℕ) → Kept (word_on s ws e u t k p block)
-  word_kept t k p block =
-      or_kept (is_set e) _ 8 (λ a. or_kept (all_wide k s ws block p) _ 9 (λ b.
-      if_on Kept (eqb (word_end k s ws (word_here e u t k p block)) 0) (refusing e 10) _ (λ c. same)
-      (λ c. spot_kept (word_end k s ws (word_here e u t k p block)) e.v 0 (not_zero (word_end k s ws (word_here e u t k p block)) c) (word_most k (word_here e u t k p block) f.h_most) f.v_some f.v_most)))
+    along_kept : (x : Axis) (i : ℕ) → 0 < i → i < 2 * origin → EnvFits q (with_along e x i)
+    along_kept Across i a b = spot_kept i e.v e.gap a b f.v_some f.v_most
+    along_kept Down i a b = spot_kept e.h i e.gap f.h_some f.h_most a b
 
-  paint_kept : (c : Colour) → EnvFits q (with_paint e c)
-  paint_kept c = record { h_some = f.h_some; h_most = f.h_most; v_some = f.v_some; v_most = f.v_most; number = f.number; ordinal = same.ordinal; size = f.size; quantum_some = f.quantum_some; quantum_most = f.quantum_most; font = f.font }
+    paint_kept : (c : Colour) → EnvFits q (with_paint e c)
+    paint_kept c = record { h_some = f.h_some; h_most = f.h_most; v_some = f.v_some; v_most = f.v_most; number = f.number; ordinal = same.ordinal; size = f.size; quantum_some = f.quantum_some; quantum_most = f.quantum_most; font = f.font }
 
-  phase_kept : (k i : ℕ) → 1 ≤ i → i < origin → EnvFits q (with_phase e k i)
-  phase_kept k i a b = record { h_some = f.h_some; h_most = f.h_most; v_some = f.v_some; v_most = f.v_most; number = f.number; ordinal = same.ordinal; size = f.size; quantum_some = a; quantum_most = b; font = f.font }
+    phase_kept : (k i : ℕ) → 1 ≤ i → i < origin → EnvFits q (with_phase e k i)
+    phase_kept k i a b = record { h_some = f.h_some; h_most = f.h_most; v_some = f.v_some; v_most = f.v_most; number = f.number; ordinal = same.ordinal; size = f.size; quantum_some = a; quantum_most = b; font = f.font }
 
-  to_kept : (x i : ℕ) → 0 < i → i < 2 * origin → Kept (to_on e x i)
-  to_kept zero i a b = spot_kept i e.v e.gap a b f.v_some f.v_most
-  to_kept (suc x) i a b = spot_kept e.h i e.gap f.h_some f.h_most a b
+    end_kept : (o : Option ℕ) (d : Word) → EndIn o → Kept q (word_to e at d o)
+    end_kept None d h = tt
+    end_kept (Some x) d h = spot_kept x e.v 0 h.0 h.1 f.v_some f.v_most
 
-  by_kept : (x i : ℕ) → Kept (by_on e x i)
-  by_kept zero i = or_kept (may_move e.h i) _ 10 (λ m. spot_kept (e.h + i - origin) e.v e.gap (move_in e.h i m).0 (move_in e.h i m).1 f.v_some f.v_most)
-  by_kept (suc x) i = or_kept (may_move e.v i) _ 10 (λ m. spot_kept e.h (e.v + i - origin) e.gap f.h_some f.h_most (move_in e.v i m).0 (move_in e.v i m).1)
+    word_kept : (t k p block : ℕ) → Kept q (word_on s ws e at u t k p block)
+    word_kept t k p block =
+        let d : Word = word_here e u t k p block in
+        or_kept q (is_set e) tt _ _ (or_kept q (all_wide k s ws block p) tt _ _ (end_kept (word_end k s ws d) d (word_in s ws k d f.h_some f.h_most)))
 
-  draw-kept : (b x y k i : ℕ) → Kept (draw_on e b x y k i q)
-  draw-kept b x y k i =
-      or_kept (may_go k e.h x && may_go k e.v y) _ 10 (λ m.
-      let a : (0 < e.h + x - k * origin) × (e.h + x - k * origin < 2 * origin) = go_in k e.h x (and_left (may_go k e.h x) (may_go k e.v y) m) in
-      let c : (0 < e.v + y - k * origin) × (e.v + y - k * origin < 2 * origin) = go_in k e.v y (and_right (may_go k e.h x) (may_go k e.v y) m) in
-      spot_kept (e.h + x - k * origin) (e.v + y - k * origin) e.gap a.0 a.1 c.0 c.1)
-
--- behind any command the environment is within the bounds
-pub did_fits : (s ws : List ℕ) (u at n : ℕ) (e : Environment) → EnvFits at e → (c : Command) → CommandIn at n c → is_refused c ≡ false → EnvFits (next_of c) (did_at s ws u e at c).env
-did_fits s ws u at n e f (C.Glyph p l q) i r = or_kept s ws u at n q e f i.0 (on_page e) _ 7 (λ a. or_kept s ws u at n q e f i.0 (is_set e) _ 8 (λ b. gap_kept s ws u at n q e f i.0 0))
-did_fits s ws u at n e f (C.Index k q) i r =
-    or_kept s ws u at n q e f i.0 (on_page e) _ 7 (λ a. or_kept s ws u at n q e f i.0 (is_set e) _ 8 (λ b.
-    if_both (Kept s ws u at n q e f i.0) (ltb k origin) _ _ (gap_kept s ws u at n q e f i.0 1) (gap_kept s ws u at n q e f i.0 0)))
-did_fits s ws u at n e f (C.Word t p x q) i r = or_kept s ws u at n q e f i.0 (on_page e) _ 7 (λ a. word_kept s ws u at n q e f i.0 t (x - p) p (block_now ws e))
-did_fits s ws u at n e f (C.Pair k p q) i r =
-    or_kept s ws u at n q e f i.0 (on_page e) _ 7 (λ a. or_kept s ws u at n q e f i.0 (is_set e) _ 8 (λ b. or_kept s ws u at n q e f i.0 (may_move e.h k) _ 10 (λ m.
-    spot_kept s ws u at n q e f i.0 (e.h + k - origin) e.v 0 (move_in s ws u at n q e f i.0 e.h k m).0 (move_in s ws u at n q e f i.0 e.h k m).1 f.v_some f.v_most)))
-did_fits s ws u at n e f (C.To x k q) i r = or_kept s ws u at n q e f i.0 (on_page e) _ 7 (λ a. to_kept s ws u at n q e f i.0 x k i.1 i.2)
-did_fits s ws u at n e f (C.By x k q) i r = or_kept s ws u at n q e f i.0 (on_page e) _ 7 (λ a. by_kept s ws u at n q e f i.0 x k)
-did_fits s ws u at n e f (C.Page k q) i r =
-    or_kept s ws u at n q e f i.0 (in_body e) _ 7 (λ a. record { h_some = f.h_some; h_most = f.h_most; v_some = omega arith; v_most = omega arith; number = i.1; ordinal = omega (arith, f.ordinal, i.0.0); size = f.size; quantum_some = f.quantum_some; quantum_most = f.quantum_most; font = f.font })
-did_fits s ws u at n e f (C.Font k q) i r =
-    or_kept s ws u at n q e f i.0 (in_body e) _ 7 (λ a.
-    if_both (Kept s ws u at n q e f i.0) (eqb (mount_at ws k) 0) _ _ (same s ws u at n q e f i.0)
-    (record { h_some = f.h_some; h_most = f.h_most; v_some = f.v_some; v_most = f.v_most; number = f.number; ordinal = (same s ws u at n q e f i.0).ordinal; size = f.size; quantum_some = f.quantum_some; quantum_most = f.quantum_most; font = omega (arith, i.1) }))
-did_fits s ws u at n e f (C.Size k q) i r =
-    or_kept s ws u at n q e f i.0 (in_body e) _ 7 (λ a. record { h_some = f.h_some; h_most = f.h_most; v_some = f.v_some; v_most = f.v_most; number = f.number; ordinal = (same s ws u at n q e f i.0).ordinal; size = i.1; quantum_some = f.quantum_some; quantum_most = f.quantum_most; font = f.font })
-did_fits s ws u at n e f (C.Colour x a b c d q) i r =
-    or_kept s ws u at n q e f i (in_body e) _ 7 (λ z. record { h_some = f.h_some; h_most = f.h_most; v_some = f.v_some; v_most = f.v_most; number = f.number; ordinal = (same s ws u at n q e f i).ordinal; size = f.size; quantum_some = f.quantum_some; quantum_most = f.quantum_most; font = f.font })
-did_fits s ws u at n e f (C.Break q) i r = or_kept s ws u at n q e f i (in_body e) _ 7 (λ a. gap_kept s ws u at n q e f i 1)
-did_fits s ws u at n e f (C.Space q) i r = or_kept s ws u at n q e f i (in_body e) _ 7 (λ a. gap_kept s ws u at n q e f i 1)
-did_fits s ws u at n e f (C.Draw b x y k q) i r = or_kept s ws u at n q e f i.0 (on_page e) _ 7 (λ a. draw-kept s ws u at n q e f i.0 b x y k at)
-did_fits s ws u at n e f (C.Gray k q) i r = or_kept s ws u at n q e f i.0 (on_page e) _ 7 (λ a. paint_kept s ws u at n q e f i.0 (gray_colour e.ink k))
-did_fits s ws u at n e f (C.Fill x a b c d q) i r = or_kept s ws u at n q e f i (on_page e) _ 7 (λ z. paint_kept s ws u at n q e f i (colour_here x a b c d))
-did_fits s ws u at n e f (C.Device p l q) i r = or_kept s ws u at n q e f i (eqb e.phase 0) _ 7 (λ a. phase_kept s ws u at n q e f i 1 e.quantum f.quantum_some f.quantum_most)
-did_fits s ws u at n e f (C.Resolution k q) i r = or_kept s ws u at n q e f i.0 (eqb e.phase 1) _ 7 (λ a. phase_kept s ws u at n q e f i.0 2 k i.1 i.2)
-did_fits s ws u at n e f (C.Init q) i r = or_kept s ws u at n q e f i (eqb e.phase 2) _ 7 (λ a. phase_kept s ws u at n q e f i 3 e.quantum f.quantum_some f.quantum_most)
-did_fits s ws u at n e f (C.File p l q) i r = or_kept s ws u at n q e f i (in_body e) _ 7 (λ a. same s ws u at n q e f i)
-did_fits s ws u at n e f (C.Mount k p l q) i r = or_kept s ws u at n q e f i.0 (in_body e) _ 7 (λ a. same s ws u at n q e f i.0)
-did_fits s ws u at n e f (C.Plain b q) i r = or_kept s ws u at n q e f i (in_body e) _ 7 (λ a. same s ws u at n q e f i)
-did_fits s ws u at n e f (C.Raw q) i r = or_kept s ws u at n q e f i (in_body e) _ 7 (λ a. same s ws u at n q e f i)
-did_fits s ws u at n e f (C.Stop q) i r = or_kept s ws u at n q e f i (in_body e) _ 7 (λ a. phase_kept s ws u at n q e f i 4 e.quantum f.quantum_some f.quantum_most)
-did_fits s ws u at n e f (C.Refused k p) i r = no (sym r)
+  -- behind any command the environment is within the bounds
+  pub did_fits : (c : Command) → CommandIn at n c → Kept (next_of c) (did_at s ws u e at c)
+  did_fits (C.Glyph p l q) i = or_kept q (on_page e) tt _ _ (or_kept q (is_set e) tt _ _ (gap_kept q i.0 0))
+  did_fits (C.Index k q) i = or_kept q (on_page e) tt _ _ (or_kept q (is_set e) tt _ _ (if_both (Kept q) (ltb k origin) _ _ (gap_kept q i.0 1) (gap_kept q i.0 0)))
+  did_fits (C.Word t p x q) i = or_kept q (on_page e) tt _ _ (word_kept q i.0 t (x - p) p (block_now ws e))
+  did_fits (C.Pair k p q) i = or_kept q (on_page e) tt _ _ (or_kept q (is_set e) tt _ _ (placed_kept q origin (e.h + k) at (λ h. record_on (with_spot e h e.v) p 1 0) (λ h a b. spot_kept q i.0 h e.v 0 a b f.v_some f.v_most)))
+  did_fits (C.To x k q) i = or_kept q (on_page e) tt _ _ (along_kept q i.0 x k i.1 i.2)
+  did_fits (C.By x k q) i = or_kept q (on_page e) tt _ _ (placed_kept q origin (along e x + k) at (λ j. doing (with_along e x j) E.Nothing) (along_kept q i.0 x))
+  did_fits (C.Page k q) i =
+      or_kept q (in_body e) tt _ _ (record { h_some = f.h_some; h_most = f.h_most; v_some = omega arith; v_most = omega arith; number = i.1; ordinal = omega (arith, f.ordinal, i.0.0); size = f.size; quantum_some = f.quantum_some; quantum_most = f.quantum_most; font = f.font })
+  did_fits (C.Font k q) i =
+      or_kept q (in_body e) tt _ _ (or_kept q (ltb 0 (mount_at ws k)) tt _ _
+      (record { h_some = f.h_some; h_most = f.h_most; v_some = f.v_some; v_most = f.v_most; number = f.number; ordinal = (same q i.0).ordinal; size = f.size; quantum_some = f.quantum_some; quantum_most = f.quantum_most; font = omega (arith, i.1) }))
+  did_fits (C.Size k q) i =
+      or_kept q (in_body e) tt _ _ (record { h_some = f.h_some; h_most = f.h_most; v_some = f.v_some; v_most = f.v_most; number = f.number; ordinal = (same q i.0).ordinal; size = i.1; quantum_some = f.quantum_some; quantum_most = f.quantum_most; font = f.font })
+  did_fits (C.Colour x a b c d q) i =
+      or_kept q (in_body e) tt _ _ (record { h_some = f.h_some; h_most = f.h_most; v_some = f.v_some; v_most = f.v_most; number = f.number; ordinal = (same q i).ordinal; size = f.size; quantum_some = f.quantum_some; quantum_most = f.quantum_most; font = f.font })
+  did_fits (C.Break q) i = or_kept q (in_body e) tt _ _ (gap_kept q i 1)
+  did_fits (C.Space q) i = or_kept q (in_body e) tt _ _ (gap_kept q i 1)
+  did_fits (C.Draw b x y k q) i =
+      let moved : ℕ → ℕ → Result Did Refusal = λ h v. doing (with_spot e h v) (E.Entry (drawing_here e b 0 at q)) in
+      or_kept q (on_page e) tt _ _
+      (placed_kept q (k * origin) (e.h + x) at (λ h. and_then (placed_or (gone (k * origin) (e.v + y)) at) (moved h))
+      (λ h h₁ h₂. placed_kept q (k * origin) (e.v + y) at (moved h) (λ v v₁ v₂. spot_kept q i.0 h v e.gap h₁ h₂ v₁ v₂)))
+  did_fits (C.Gray k q) i = or_kept q (on_page e) tt _ _ (paint_kept q i.0 (gray_colour e.ink k))
+  did_fits (C.Fill x a b c d q) i = or_kept q (on_page e) tt _ _ (paint_kept q i (colour_here x a b c d))
+  did_fits (C.Device p l q) i = or_kept q (eqb e.phase 0) tt _ _ (phase_kept q i 1 e.quantum f.quantum_some f.quantum_most)
+  did_fits (C.Resolution k q) i = or_kept q (eqb e.phase 1) tt _ _ (phase_kept q i.0 2 k i.1 i.2)
+  did_fits (C.Init q) i = or_kept q (eqb e.phase 2) tt _ _ (phase_kept q i 3 e.quantum f.quantum_some f.quantum_most)
+  did_fits (C.File p l q) i = or_kept q (in_body e) tt _ _ (same q i)
+  did_fits (C.Mount k p l q) i = or_kept q (in_body e) tt _ _ (same q i.0)
+  did_fits (C.Plain b q) i = or_kept q (in_body e) tt _ _ (same q i)
+  did_fits (C.Raw q) i = or_kept q (in_body e) tt _ _ (same q i)
+  did_fits (C.Stop q) i = or_kept q (in_body e) tt _ _ (phase_kept q i 4 e.quantum f.quantum_some f.quantum_most)

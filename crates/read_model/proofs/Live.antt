@@ -3,13 +3,13 @@ use Prim.Native.Nat.{ℕ, suc, ◌+◌, ◌*◌, ◌-◌, ◌<◌, ◌≤◌}
 use native.Mathlib.Omega.{arith}
 use native.Mathlib.Nat.{add-zero}
 use native.Mathlib.Decide.{ℕ_discrete}
-use mathlib.Core.Bool.{true, not, ◌&&◌}
+use mathlib.Core.Bool.{true, ◌&&◌}
 use mathlib.Core.List.{List, [], ◌∷◌}
 use mathlib.Core.Path.{◌≡◌, refl, sym, ap, ◌∙◌}
-use lib.Dec.{leb, eqb}
+use lib.Dec.{leb, ltb}
 use lib.ListN.{length, take, drop, get_or, set, length-set}
 use lib.Seq.{get_or-set_same, get_or-set_other, get_or-drop, drop-drop}
-use borrow.Author.Tests.{leb-true, ne_eqb}
+use borrow.Author.Tests.{leb-true, lt-ltb}
 use Rattle.rules.specs.Bytes.{origin, most, near, within}
 use Rattle.rules.specs.Act.{Act, glyph, index, to, by, page, font, size, colour, break, space, draw, device, resolution, init, file, mount, plain, raw, stop, line, arc, circle, solid_circle, ellipse, solid_ellipse, polygon, solid_polygon, spline, thickness, gray_fill, colour_fill, Cmd, just, word, pair}
 use Rattle.rules.specs.Widths.{Widths, Font, width_of, advance}
@@ -46,9 +46,9 @@ mark_named : (find : List ℕ → ℕ) (n : List ℕ) → is_mounted n ≡ true 
 mark_named find [] h = impossible h
 mark_named find (b ∷ n) h = refl
 
-mark_zero : (find : List ℕ → ℕ) (n : List ℕ) → eqb (mark_of find n) 0 ≡ not (is_mounted n)
-mark_zero find [] = refl
-mark_zero find (b ∷ n) = ne_eqb (find (b ∷ n) + 1) 0 (λ e. omega arith)
+mark_some : (find : List ℕ → ℕ) (n : List ℕ) → ltb 0 (mark_of find n) ≡ is_mounted n
+mark_some find [] = refl
+mark_some find (b ∷ n) = lt-ltb 0 (find (b ∷ n) + 1) (omega arith)
 
 mounted_set : (w : Widths) (find : List ℕ → ℕ) (ms : List (List ℕ)) (ws : List ℕ) (i : ℕ) (m : List ℕ) → i < 256 → Name m → Mounted w find ms ws
     → Mounted w find (set ms i m) (set ws i (find m + 1))
@@ -112,25 +112,8 @@ reads_from fs name s ws block far t y (b ∷ bs) p h = go (drop p s) refl h (λ 
 -- the position of an `f` and of a mount is one of 256
 module _ (w : Widths) (find : List ℕ → ℕ) (s : List ℕ) (y : (i : ℕ) → get_or s i 0 < 256) (ms : List (List ℕ)) (ws : List ℕ) (u : ℕ) (e : Environment) (v : Live w find ms ws u e) where
   act_mounts : (p q : ℕ) (a : Act) → all_true (limits a) ≡ true → MountOf ms (asked_mount ws (act_of p q a)) a
-  act_mounts p q (glyph n) g = tt
-  act_mounts p q (index n) g = tt
-  act_mounts p q (to x n) g = tt
-  act_mounts p q (by x n) g = tt
-  act_mounts p q (page n) g = tt
-  act_mounts p q (font n) g = rw (v.mounted.mount (n - origin) (position-small n (and_left (within origin (origin + 255) n) true g))) (mark_zero find (mounted_at (n - origin) ms))
-  act_mounts p q (size n) g = tt
-  act_mounts p q (colour c ns) g = tt
-  act_mounts p q break g = tt
-  act_mounts p q space g = tt
-  act_mounts p q (draw x ns) g = tt
-  act_mounts p q (device n) g = tt
-  act_mounts p q (resolution n h k) g = tt
-  act_mounts p q init g = tt
-  act_mounts p q (file n) g = tt
-  act_mounts p q (mount n m) g = tt
-  act_mounts p q (plain c ns) g = tt
-  act_mounts p q (raw t) g = tt
-  act_mounts p q stop g = tt
+  act_mounts p q (font n) g = rw (v.mounted.mount (n - origin) (position-small n (and_left (within origin (origin + 255) n) true g))) (mark_some find (mounted_at (n - origin) ms))
+  act_mounts p q a g = tt
 
   -- the block of the current font
   block_is : (f : ℕ) → e.font ≡ suc f → block_now ws e ≡ find (mounted_at f ms) + 1
@@ -144,17 +127,17 @@ module _ (w : Widths) (find : List ℕ → ℕ) (s : List ℕ) (y : (i : ℕ) �
       λ f k. reads_from w.fonts (mounted_at f ms) s ws (block_now ws e) (λ x. advance x e.size w.unitwidth e.quantum + n) (λ b l. ap (λ (x : ℕ). entry_at ws x b) (block_is f k) ∙ v.mounted.table (mounted_at f ms) b l) y bs p h
   mounts_of p q (pair n b) g h = tt
 
-  pub word_for : (p q : ℕ) (c : Cmd) → WordFor s ws u e p (block_now ws e) (word_asked s ws u e (cmd_of p q c)) c
-  word_for p q (just a) = tt
-  word_for p q (word n bs) = let z : p + length bs - p ≡ length bs = omega arith in ap (λ (k : ℕ). word_on s ws e u n k p (block_now ws e)) z
-  word_for p q (pair n b) = tt
+  pub word_for : (at p q : ℕ) (c : Cmd) → WordFor s ws u e at p (block_now ws e) (word_asked s ws u e at (cmd_of p q c)) c
+  word_for at p q (just a) = tt
+  word_for at p q (word n bs) = let z : p + length bs - p ≡ length bs = omega arith in ap (λ (k : ℕ). word_on s ws e at u n k p (block_now ws e)) z
+  word_for at p q (pair n b) = tt
 
   -- what the code does at a command is what the rules say
   pub did_agrees : (at l a : ℕ) (c : Cmd) → GoodCmd c → take (length (name_in c)) (drop (at + a) s) ≡ name_in c
       → Agrees s ws (mounts_after_cmd c ms) at (at + a) l (perform (env_of e ms) (acts w (env_of e ms) c)) (did_at s ws u e at (cmd_of (at + a) (at + l) c))
   did_agrees at l a c g h =
-      command_agrees w s ws ms at l (at + a) (asked_mount ws (cmd_of (at + a) (at + l) c)) (block_now ws e) u e (word_asked s ws u e (cmd_of (at + a) (at + l) c)) v.unit (placed e v.near_h v.near_v) c g.1
-      (mounts_of (at + a) (at + l) c g h) (word_for (at + a) (at + l) c)
+      command_agrees w s ws ms at l (at + a) (asked_mount ws (cmd_of (at + a) (at + l) c)) (block_now ws e) u e (word_asked s ws u e at (cmd_of (at + a) (at + l) c)) v.unit (placed e v.near_h v.near_v) c g.1
+      (mounts_of (at + a) (at + l) c g h) (word_for at (at + a) (at + l) c)
 
 -- ---- what a command keeps
 

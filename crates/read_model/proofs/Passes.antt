@@ -1,5 +1,5 @@
 -- A pass reads the stream as the rules do: from any place on, it ends as they say, and leaves in the rows what they say.
-use Rattle.std.specs.Prelude.{if◌then◌else◌}
+use Rattle.std.specs.Prelude.{Result, Ok, Err, if◌then◌else◌}
 use Prim.Native.Nat.{ℕ, zero, suc, ◌+◌, ◌-◌, ◌<◌, ◌≤◌}
 use native.Mathlib.Omega.{arith}
 use native.Mathlib.Nat.{add-zero}
@@ -10,7 +10,8 @@ use mathlib.Core.Path.{◌≡◌, refl, sym, ap, ◌∙◌}
 use lib.Dec.{ltb, eqb}
 use lib.ListN.{length, take, drop, get_or, length-append}
 use lib.Seq.{drop-drop}
-use borrow.Author.Tests.{eqb-false, eq-eqb, ne_eqb}
+use borrow.Author.Tests.{eq-eqb, ne_eqb}
+use Rattle.rules.specs.declared.Refusal.{Refusal}
 use Rattle.rules.specs.Bytes.{is, is_white, one_line}
 use Rattle.rules.specs.Act.{Cmd}
 use Rattle.rules.specs.Scan.{Scan, name_in, got, bad, command}
@@ -21,9 +22,8 @@ use Rattle.scan_command.specs.declared.Command.{Command}
 use Rattle.scan_command.specs.View.{cmd_of, command_at}
 use Rattle.laws.proofs.Cases.{on, if_both}
 use Rattle.laws.proofs.Good.{GoodCmd}
-use Rattle.laws_read.proofs.Numbers.{StepIn, step_in}
 use Rattle.laws_scan.proofs.Fair.{command_good}
-use Rattle.laws_scan.proofs.Bounds.{GotIn, command_in, bad_place}
+use Rattle.laws_scan.proofs.Bounds.{GotIn, command_in}
 use Rattle.laws_scan.proofs.Walk.{from, cons_at, comment_in, got_in, from_end, from_white, from_comment, from_bad, from_got}
 use Rattle.read_model.specs.declared.Environment.{Environment}
 use Rattle.read_model.specs.declared.Did.{Did}
@@ -33,7 +33,7 @@ use Rattle.read_model.specs.declared.Effect.TheVariants as F
 use Rattle.read_model.specs.declared.State.{State}
 use Rattle.read_model.specs.declared.Turned.{Turned}
 use Rattle.read_model.specs.Environment.{env_of}
-use Rattle.read_model.specs.Turns.{did_at, next_of, scratch_after, halted_at, halted, gone_to, fills_records, fills_entries, emitted, point_of, done_of, skipped, turn_on, turn_of, scratch_of}
+use Rattle.read_model.specs.Turns.{did_at, next_of, scratch_after, halted_at, halted, gone_to, fills_records, fills_entries, emitted, done_of, skipped, turn_on, turn_of, scratch_of}
 use Rattle.read_model.specs.Passes.{ReadPass, records_after, entries_after, read_step_of, read_pass_for}
 use Rattle.read_model.proofs.Acts.{Agrees, records_in, entries_in}
 use Rattle.read_model.proofs.Commands.{mounts_after_cmd}
@@ -186,7 +186,7 @@ reads_at w s ms st = follow w (env_of st.env ms) (from s st.at)
 abbrev pub command_here : State → Cmd → ℕ → ℕ → Command
 command_here st c a l = cmd_of (st.at + a) (st.at + l) c
 
-unfoldable pub did_here : List ℕ → List ℕ → State → Cmd → ℕ → ℕ → Did
+unfoldable pub did_here : List ℕ → List ℕ → State → Cmd → ℕ → ℕ → Result Did Refusal
 did_here s ws st c a l = did_at s ws st.unitwidth st.env st.at (command_here st c a l)
 
 pub record Here (w : Widths) (find : List ℕ → ℕ) (s : List ℕ) (ms : List (List ℕ)) (ws : List ℕ) (st : State) (c : Cmd) (a l : ℕ) : Type 0 where
@@ -194,8 +194,8 @@ pub record Here (w : Widths) (find : List ℕ → ℕ) (s : List ℕ) (ms : List
   pub stands : take (length (name_in c)) (drop (st.at + a) s) ≡ name_in c
   pub some : 1 ≤ l
   pub within : st.at + l ≤ length s
-  pub found : command_at s st.at ≡ command_here st c a l
-  pub turned : turn_on s ws st (command_here st c a l) ≡ done_of (length s) st (st.at + l) (did_here s ws st c a l)
+  pub found : command_at s st.at ≡ Ok (command_here st c a l)
+  pub turned : turn_on s ws st (Ok (command_here st c a l)) ≡ done_of (length s) st (st.at + l) (did_here s ws st c a l)
   pub turn : turn_of s ws st ≡ done_of (length s) st (st.at + l) (did_here s ws st c a l)
   pub scratch : scratch_of find s ws st ≡ scratch_after find s ws st.env (command_here st c a l)
   pub follows : reads_at w s ms st ≡ go_on st.at (st.at + a) l (λ d. follow w d (from s (st.at + l))) (perform (env_of st.env ms) (acts w (env_of st.env ms) c))
@@ -206,11 +206,11 @@ module _ (w : Widths) (find : List ℕ → ℕ) (s : List ℕ) (ms : List (List 
     inside : GotIn (get_or s st.at 0 ∷ drop (st.at + 1) s) c a l
     inside = rw q at (command_in (get_or s st.at 0) (drop (st.at + 1) s))
 
-    found_is : command_at s st.at ≡ command_here st c a l
+    found_is : command_at s st.at ≡ Ok (command_here st c a l)
     unfolding command_at
     found_is = rw q
 
-    turned_is : turn_on s ws st (command_here st c a l) ≡ done_of (length s) st (st.at + l) (did_here s ws st c a l)
+    turned_is : turn_on s ws st (Ok (command_here st c a l)) ≡ done_of (length s) st (st.at + l) (did_here s ws st c a l)
     unfolding did_here
     turned_is = ap (λ (i : ℕ). done_of (length s) st i (did_here s ws st c a l)) (next_is (st.at + a) (st.at + l) c)
 
@@ -247,42 +247,45 @@ module _ (w : Widths) (find : List ℕ → ℕ) (s : List ℕ) (ms : List (List 
       fewer = fewer_is;
     }
 
-  -- where nothing is refused, with its records rs and its entries xs
-  pub record Went (rs : List GlyphRow) (xs : List ItemRow) : Type 0 where
-    pub reads : reads_at w s ms st ≡ after_rows rs xs (follow w (env_of (did_here s ws st c a l).env (mounts_after_cmd c ms)) (from s (st.at + l)))
+  -- where nothing is refused, with what was done, its records rs and its entries xs
+  pub record Went (did : Did) (rs : List GlyphRow) (xs : List ItemRow) : Type 0 where
+    pub is : did_here s ws st c a l ≡ Ok did
+    pub reads : reads_at w s ms st ≡ after_rows rs xs (follow w (env_of did.env (mounts_after_cmd c ms)) (from s (st.at + l)))
     pub few_records : length rs ≤ l
     pub few_entries : length xs ≤ l
-    pub turn : turn_of s ws st ≡ emitted (length s) st (st.at + l) (did_here s ws st c a l).env (did_here s ws st c a l).emitted
-    pub turns : Turns s ws (length s) st (st.at + l) (did_here s ws st c a l).env (did_here s ws st c a l).emitted (emitted (length s) st (st.at + l) (did_here s ws st c a l).env (did_here s ws st c a l).emitted)
-    pub state : (turn_of s ws st).state ≡ gone_to (length s) st (st.at + l) (st.records + length rs) (st.entries + length xs) (did_here s ws st c a l).env
-    pub live : Live w find (mounts_after_cmd c ms) (scratch_of find s ws st) st.unitwidth (did_here s ws st c a l).env
+    pub turn : turn_of s ws st ≡ emitted (length s) st (st.at + l) did.env did.emitted
+    pub turns : Turns s ws (length s) st (st.at + l) did.env did.emitted (emitted (length s) st (st.at + l) did.env did.emitted)
+    pub state : (turn_of s ws st).state ≡ gone_to (length s) st (st.at + l) (st.records + length rs) (st.entries + length xs) did.env
+    pub live : Live w find (mounts_after_cmd c ms) (scratch_of find s ws st) st.unitwidth did.env
 
-  pub went_here : Here w find s ms ws st c a l → Live w find ms ws st.unitwidth st.env → Room (length s) (reads_at w s ms st) st
-      → (d : Env) (gs : List Glyph) (ys : List Item) → perform (env_of st.env ms) (acts w (env_of st.env ms) c) ≡ went d gs ys → Agrees s ws (mounts_after_cmd c ms) st.at (st.at + a) l (went d gs ys) (did_here s ws st c a l)
-      → Went (glyph_rows (st.at + a) gs) (item_rows st.at l ys)
-  went_here o v r d gs ys z t =
-      let did : Did = did_here s ws st c a l in
+  pub went_here : (o : Here w find s ms ws st c a l) → Live w find ms ws st.unitwidth st.env → Room (length s) (reads_at w s ms st) st
+      → (d : Env) (gs : List Glyph) (ys : List Item) → perform (env_of st.env ms) (acts w (env_of st.env ms) c) ≡ went d gs ys
+      → (did : Did) → did_here s ws st c a l ≡ Ok did → Agrees s ws (mounts_after_cmd c ms) st.at (st.at + a) l (went d gs ys) (Ok did)
+      → Went did (glyph_rows (st.at + a) gs) (item_rows st.at l ys)
+  went_here o v r d gs ys z did e t =
       let rs : List GlyphRow = glyph_rows (st.at + a) gs in
       let xs : List ItemRow = item_rows st.at l ys in
       let rest : Answer = follow w (env_of did.env (mounts_after_cmd c ms)) (from s (st.at + l)) in
-      let n₁ : length (records_in s ws did.emitted) ≡ length rs = sym (ap length t.2) ∙ length-map record_of rs in
-      let n₂ : length (entries_in did.emitted) ≡ length xs = sym (ap length t.3) ∙ length-map entry_of xs in
-      let f₁ : length rs ≤ l = omega (arith, n₁, o.fewer.0) in
-      let f₂ : length xs ≤ l = omega (arith, n₂, o.fewer.1) in
-      let reads : reads_at w s ms st ≡ after_rows rs xs rest = o.follows ∙ rw z (ap (λ (i : Env). after_rows rs xs (follow w i (from s (st.at + l)))) (sym t.1)) in
+      let fewer : Few s ws l o.some (Ok did) = rw e at o.fewer in
+      let n₁ : length (records_in s ws did.emitted) ≡ length rs = sym (ap length t.1) ∙ length-map record_of rs in
+      let n₂ : length (entries_in did.emitted) ≡ length xs = sym (ap length t.2) ∙ length-map entry_of xs in
+      let f₁ : length rs ≤ l = omega (arith, n₁, fewer.0) in
+      let f₂ : length xs ≤ l = omega (arith, n₂, fewer.1) in
+      let reads : reads_at w s ms st ≡ after_rows rs xs rest = o.follows ∙ rw z (ap (λ (i : Env). after_rows rs xs (follow w i (from s (st.at + l)))) (sym t.0)) in
       let room : (st.records + length rs ≤ st.rmax) × (st.entries + length xs ≤ st.emax) =
       room_now (length s) rs xs rest st (omega (arith, o.within)) (omega (arith, o.within)) (rw reads at r) in
-      let turn : turn_of s ws st ≡ emitted (length s) st (st.at + l) did.env did.emitted = o.turn ∙ rw t.0 in
+      let turn : turn_of s ws st ≡ emitted (length s) st (st.at + l) did.env did.emitted = o.turn ∙ rw e in
       let turns : Turns s ws (length s) st (st.at + l) did.env did.emitted (emitted (length s) st (st.at + l) did.env did.emitted) =
       emitted-turns s ws (length s) st (st.at + l) did.env did.emitted (rw n₁ room.0) (rw n₂ room.1) in
       record {
+        is = e;
         reads = reads;
         few_records = f₁;
         few_entries = f₂;
         turn = turn;
         turns = turns;
         state = rw (turn, turns.state, n₁, n₂);
-        live = rw o.scratch (live_next w find s ms ws st.unitwidth st.env v st.at l a c o.good o.stands d gs ys did z t.1);
+        live = rw o.scratch (live_next w find s ms ws st.unitwidth st.env v st.at l a c o.good o.stands d gs ys did z t.0);
       }
 
 -- ---- a whole pass
@@ -355,37 +358,28 @@ module _ (w : Widths) (find : List ℕ → ℕ) (s : List ℕ) (y : (i : ℕ) �
           → Ended (reads_from ms p.state) p (read_pass_for (suc f) find s p)
       stops x to z t q = rw (q, one_turn, stays f find s (read_step_of find s p) (rw t), t) (inl (refl, z, refl))
 
-      -- 6 points at an argument, any other number at the command
-      point_is : (n j : ℕ) → command (get_or s p.state.at 0) (drop (p.state.at + 1) s) ≡ bad n j → point_of p.state.at (p.state.at + j) n ≡ p.state.at + j
-      point_is n j q =
-          on (eqb n 6) (λ i. rw i)
-          (λ i. rw (i, bad_place (get_or s p.state.at 0) (drop (p.state.at + 1) s) n j q (eqb-false n 6 i), add-zero))
-
       refuses : (n j : ℕ) → command (get_or s p.state.at 0) (drop (p.state.at + 1) s) ≡ bad n j → Ended (reads_from ms p.state) p (read_pass_for (suc f) find s p)
       unfolding turn_of command_at follow
       refuses n j q =
           let z : 0 < n = rw q at (command_good (get_or s p.state.at 0) (drop (p.state.at + 1) s)) in
           on (eqb p.state.env.phase 4)
           (λ x. stops 7 p.state.at (omega arith) (rw (e, k, q, x)) (rw (from_bad s p.state.at h e k n j q, x)))
-          (λ x. stops n (p.state.at + j) z (rw (e, k, q, x, ne_eqb n 0 (λ i. omega arith), point_is n j q)) (rw (from_bad s p.state.at h e k n j q, x)))
+          (λ x. stops n (p.state.at + j) z (rw (e, k, q, x)) (rw (from_bad s p.state.at h e k n j q, x)))
 
       module _ (c : Cmd) (a l' : ℕ) (q : command (get_or s p.state.at 0) (drop (p.state.at + 1) s) ≡ got c a l') where
         here : Here w find s ms p.scratch p.state c a l'
         here = here_is w find s ms p.scratch p.state c a l' h e k q
 
-        abbrev did : Did
-        did = did_here s p.scratch p.state c a l'
-
-        goes_on : (x : Step) → perform (env_of p.state.env ms) (acts w (env_of p.state.env ms) c) ≡ x → Agrees s p.scratch (mounts_after_cmd c ms) p.state.at (p.state.at + a) l' x did
-            → Ended (reads_from ms p.state) p (read_pass_for (suc f) find s p)
-        goes_on (refused n) z t =
-            let o : StepIn (refused n) = rw z at (step_in w (env_of p.state.env ms) c) in
-            stops n p.state.at t.1 (here.turn ∙ rw (t.0, ne_eqb n 0 (λ i. omega (arith, o.0)), ne_eqb n 6 (λ i. omega (arith, o.0)))) (here.follows ∙ rw z)
-        goes_on (went d gs ys) z t =
+        goes_on : (x : Step) → perform (env_of p.state.env ms) (acts w (env_of p.state.env ms) c) ≡ x → (d : Result Did Refusal) → did_here s p.scratch p.state c a l' ≡ d
+            → Agrees s p.scratch (mounts_after_cmd c ms) p.state.at (p.state.at + a) l' x d → Ended (reads_from ms p.state) p (read_pass_for (suc f) find s p)
+        goes_on (refused n) z (Ok d) i t = absurd t
+        goes_on (refused n) z (Err y) i t = stops n p.state.at t.1 (here.turn ∙ rw (i, t.0)) (here.follows ∙ rw z)
+        goes_on (went d gs ys) z (Err y) i t = absurd t
+        goes_on (went d gs ys) z (Ok did) i t =
             let rs : List GlyphRow = glyph_rows (p.state.at + a) gs in
             let xs : List ItemRow = item_rows p.state.at l' ys in
-            let x : Went w find s ms p.scratch p.state c a l' rs xs = went_here w find s ms p.scratch p.state c a l' here v r d gs ys z t in
-            onward f more ms (mounts_after_cmd c ms) p (read_step_of find s p) rs xs (went-steps find s p (p.state.at + l') did rs xs x.turn t.2 t.3 x.turns)
+            let x : Went w find s ms p.scratch p.state c a l' did rs xs = went_here w find s ms p.scratch p.state c a l' here v r d gs ys z did i t in
+            onward f more ms (mounts_after_cmd c ms) p (read_step_of find s p) rs xs (went-steps find s p (p.state.at + l') did rs xs x.turn t.1 t.2 x.turns)
             (rw x.state (record { within = here.within; left = refl; clear = g.clear }))
             (rw x.state x.live)
             (rw x.state (omega (arith, x.few_records)))
@@ -396,7 +390,9 @@ module _ (w : Widths) (find : List ℕ → ℕ) (s : List ℕ) (y : (i : ℕ) �
 
         one_command : Ended (reads_from ms p.state) p (read_pass_for (suc f) find s p)
         unfolding did_here
-        one_command = goes_on (perform (env_of p.state.env ms) (acts w (env_of p.state.env ms) c)) refl (did_agrees w find s y ms p.scratch p.state.unitwidth p.state.env v p.state.at l' a c here.good here.stands)
+        one_command =
+            goes_on (perform (env_of p.state.env ms) (acts w (env_of p.state.env ms) c)) refl (did_here s p.scratch p.state c a l') refl
+            (did_agrees w find s y ms p.scratch p.state.unitwidth p.state.env v p.state.at l' a c here.good here.stands)
 
       commands_on : (x : Scan) → command (get_or s p.state.at 0) (drop (p.state.at + 1) s) ≡ x → Ended (reads_from ms p.state) p (read_pass_for (suc f) find s p)
       commands_on (bad n j) q = refuses n j q
@@ -429,8 +425,13 @@ module _ (find : List ℕ → ℕ) (s : List ℕ) where
   emitted_idle n st to e (E.Entry x) h = if_both Idle (ltb st.entries st.emax) _ (halted st 13) (rw h (refl, refl)) (refl, h)
   emitted_idle n st to e (E.Word d) h = if_both Idle (ltb (st.rmax - st.records) d.left) (halted st 13) _ (refl, h) (rw h (refl, refl))
 
-  done_idle : (n : ℕ) (st : State) (to : ℕ) (d : Did) → st.fill ≡ 0 → Idle (done_of n st to d)
-  done_idle n st to d h = if_both Idle (eqb d.refusal 0) (emitted n st to d.env d.emitted) (halted_at (point_of st.at to d.refusal) st d.refusal) (emitted_idle n st to d.env d.emitted h) (refl, h)
+  done_idle : (n : ℕ) (st : State) (to : ℕ) (d : Result Did Refusal) → st.fill ≡ 0 → Idle (done_of n st to d)
+  done_idle n st to (Ok d) h = emitted_idle n st to d.env d.emitted h
+  done_idle n st to (Err r) h = (refl, h)
+
+  command_idle : (ws : List ℕ) (st : State) (c : Result Command Refusal) → st.fill ≡ 0 → Idle (turn_on s ws st c)
+  command_idle ws st (Ok c) h = done_idle (length s) st (next_of c) (did_at s ws st.unitwidth st.env st.at c) h
+  command_idle ws st (Err r) h = (refl, h)
 
   turn_idle : (ws : List ℕ) (st : State) → st.fill ≡ 0 → Idle (turn_of s ws st)
   unfolding turn_of
@@ -438,8 +439,7 @@ module _ (find : List ℕ → ℕ) (s : List ℕ) where
       let line : Turned = skipped (length s) st (st.at + 1 + one_line (drop (st.at + 1) s)) in
       let rest : Turned = turn_on s ws st (command_at s st.at) in
       if_both Idle (is_white (get_or s st.at 0)) (skipped (length s) st (st.at + 1)) (if is "#" (get_or s st.at 0) then line else rest) (refl, h)
-      (if_both Idle (is "#" (get_or s st.at 0)) line rest (refl, h)
-      (done_idle (length s) st (next_of (command_at s st.at)) (did_at s ws st.unitwidth st.env st.at (command_at s st.at)) h))
+      (if_both Idle (is "#" (get_or s st.at 0)) line rest (refl, h) (command_idle ws st (command_at s st.at) h))
 
   pub judging_keeps : (f : ℕ) (p : ReadPass) → p.state.fill ≡ 0 → ((read_pass_for f find s p).records ≡ p.records) × ((read_pass_for f find s p).entries ≡ p.entries)
   unfolding read_pass_for

@@ -1,6 +1,7 @@
 -- Bounds that the code's arithmetic rests on: of the environment, and of a command at a place.
-use Rattle.std.specs.Prelude.{ℕ, ◌+◌, ◌*◌, ◌<◌, ◌≤◌, Bool, true, false}
+use Rattle.std.specs.Prelude.{ℕ, ◌+◌, ◌*◌, ◌<◌, ◌≤◌, Result, Ok, Err}
 use Rattle.rules.specs.Bytes.{origin}
+use Rattle.rules.specs.declared.Refusal.{Refusal}
 use Rattle.scan_command.specs.declared.Command.{Command}
 use Rattle.scan_command.specs.declared.Command.TheVariants as C
 use Rattle.read_model.specs.declared.Environment.{Environment}
@@ -46,30 +47,12 @@ CommandIn at n (C.Mount i p l q) = Ends at n q × (i < 256) × (p + l ≤ q)
 CommandIn at n (C.Plain b q) = Ends at n q
 CommandIn at n (C.Raw q) = Ends at n q
 CommandIn at n (C.Stop q) = Ends at n q
-CommandIn at n (C.Refused i p) = (0 < i) × (at ≤ p) × (p ≤ n)
 
-abbrev pub is_refused : Command → Bool
-is_refused (C.Glyph p l q) = false
-is_refused (C.Index i q) = false
-is_refused (C.Word t p r q) = false
-is_refused (C.Pair i p q) = false
-is_refused (C.To x i q) = false
-is_refused (C.By x i q) = false
-is_refused (C.Page i q) = false
-is_refused (C.Font i q) = false
-is_refused (C.Size i q) = false
-is_refused (C.Colour s a b c d q) = false
-is_refused (C.Break q) = false
-is_refused (C.Space q) = false
-is_refused (C.Draw b x y k q) = false
-is_refused (C.Gray i q) = false
-is_refused (C.Fill s a b c d q) = false
-is_refused (C.Device p l q) = false
-is_refused (C.Resolution i q) = false
-is_refused (C.Init q) = false
-is_refused (C.File p l q) = false
-is_refused (C.Mount i p l q) = false
-is_refused (C.Plain b q) = false
-is_refused (C.Raw q) = false
-is_refused (C.Stop q) = false
-is_refused (C.Refused i p) = true
+-- what refuses a command at a place of such a stream
+abbrev pub RefusalIn : ℕ → ℕ → Refusal → Type 0
+RefusalIn at n r = (0 < r.number) × (at ≤ r.offset) × (r.offset ≤ n)
+
+-- what was scanned there
+abbrev pub ScannedIn : ℕ → ℕ → Result Command Refusal → Type 0
+ScannedIn at n (Ok c) = CommandIn at n c
+ScannedIn at n (Err r) = RefusalIn at n r

@@ -1,6 +1,8 @@
 -- One turn of a pass, and a whole pass, in the code's own steps.
-use Rattle.std.specs.Prelude.{ℕ, ◌+◌, ◌-◌, Bool, List, ltb, eqb, length, take, drop, get_or, set, if◌then◌else◌}
+use Rattle.std.specs.Prelude.{ℕ, ◌+◌, ◌-◌, Bool, List, ltb, eqb, length, take, drop, get_or, set, Result, Ok, Err, if◌then◌else◌}
 use Rattle.rules.specs.Bytes.{is, is_white, one_line}
+use Rattle.rules.specs.declared.Refusal.{Refusal}
+use Rattle.rules.specs.Answers.{refusal}
 use Rattle.scan_command.specs.declared.Command.{Command}
 use Rattle.scan_command.specs.declared.Command.TheVariants as C
 use Rattle.scan_command.specs.View.{command_at}
@@ -23,67 +25,23 @@ mount_at ws n = get_or ws n 0
 
 -- what the mounts hold at the position of an `f`
 abbrev pub asked_mount : List ℕ → Command → ℕ
-asked_mount ws (C.Glyph p l e) = 0
-asked_mount ws (C.Index n e) = 0
-asked_mount ws (C.Word n p q e) = 0
-asked_mount ws (C.Pair n p e) = 0
-asked_mount ws (C.To x n e) = 0
-asked_mount ws (C.By x n e) = 0
-asked_mount ws (C.Page n e) = 0
 asked_mount ws (C.Font n e) = mount_at ws n
-asked_mount ws (C.Size n e) = 0
-asked_mount ws (C.Colour s a b c d e) = 0
-asked_mount ws (C.Break e) = 0
-asked_mount ws (C.Space e) = 0
-asked_mount ws (C.Draw b h v k e) = 0
-asked_mount ws (C.Gray n e) = 0
-asked_mount ws (C.Fill s a b c d e) = 0
-asked_mount ws (C.Device p l e) = 0
-asked_mount ws (C.Resolution q e) = 0
-asked_mount ws (C.Init e) = 0
-asked_mount ws (C.File p l e) = 0
-asked_mount ws (C.Mount n p l e) = 0
-asked_mount ws (C.Plain b e) = 0
-asked_mount ws (C.Raw e) = 0
-asked_mount ws (C.Stop e) = 0
-asked_mount ws (C.Refused n p) = 0
+asked_mount ws _ = 0
 
 -- the block of the font now mounted at the current position
 abbrev pub block_now : List ℕ → Environment → ℕ
 block_now ws e = mount_at ws (e.font - 1)
 
--- what is done for a word
-abbrev pub word_asked : List ℕ → List ℕ → ℕ → Environment → Command → Did
-word_asked s ws u e (C.Glyph p l n) = refusing e 7
-word_asked s ws u e (C.Index i n) = refusing e 7
-word_asked s ws u e (C.Word t p q n) = word_on s ws e u t (q - p) p (block_now ws e)
-word_asked s ws u e (C.Pair i p n) = refusing e 7
-word_asked s ws u e (C.To x i n) = refusing e 7
-word_asked s ws u e (C.By x i n) = refusing e 7
-word_asked s ws u e (C.Page i n) = refusing e 7
-word_asked s ws u e (C.Font i n) = refusing e 7
-word_asked s ws u e (C.Size i n) = refusing e 7
-word_asked s ws u e (C.Colour x a b c d n) = refusing e 7
-word_asked s ws u e (C.Break n) = refusing e 7
-word_asked s ws u e (C.Space n) = refusing e 7
-word_asked s ws u e (C.Draw b h v k n) = refusing e 7
-word_asked s ws u e (C.Gray i n) = refusing e 7
-word_asked s ws u e (C.Fill x a b c d n) = refusing e 7
-word_asked s ws u e (C.Device p l n) = refusing e 7
-word_asked s ws u e (C.Resolution q n) = refusing e 7
-word_asked s ws u e (C.Init n) = refusing e 7
-word_asked s ws u e (C.File p l n) = refusing e 7
-word_asked s ws u e (C.Mount i p l n) = refusing e 7
-word_asked s ws u e (C.Plain b n) = refusing e 7
-word_asked s ws u e (C.Raw n) = refusing e 7
-word_asked s ws u e (C.Stop n) = refusing e 7
-word_asked s ws u e (C.Refused i p) = refusing e 7
+-- what is done for a word; no other command asks for it
+abbrev pub word_asked : List ℕ → List ℕ → ℕ → Environment → ℕ → Command → Result Did Refusal
+word_asked s ws u e at (C.Word t p q n) = word_on s ws e at u t (q - p) p (block_now ws e)
+word_asked s ws u e at _ = refusing 7 at
 
 -- one command at a place
-abbrev pub did_at : List ℕ → List ℕ → ℕ → Environment → ℕ → Command → Did
-did_at s ws u e at c = did_of e at (asked_mount ws c) (word_asked s ws u e c) c
+abbrev pub did_at : List ℕ → List ℕ → ℕ → Environment → ℕ → Command → Result Did Refusal
+did_at s ws u e at c = did_of e at (asked_mount ws c) (word_asked s ws u e at c) c
 
--- the place behind a command, or at which the refusal of one points
+-- the place behind a command
 abbrev pub next_of : Command → ℕ
 next_of (C.Glyph p l n) = n
 next_of (C.Index i n) = n
@@ -108,34 +66,16 @@ next_of (C.Mount i p l n) = n
 next_of (C.Plain b n) = n
 next_of (C.Raw n) = n
 next_of (C.Stop n) = n
-next_of (C.Refused i p) = p
 
 -- the scratch row behind a command: `x f` in the body mounts the font whose slot `find` gives for the name
 abbrev pub scratch_after : (List ℕ → ℕ) → List ℕ → List ℕ → Environment → Command → List ℕ
-scratch_after find s ws e (C.Glyph p l n) = ws
-scratch_after find s ws e (C.Index i n) = ws
-scratch_after find s ws e (C.Word t p q n) = ws
-scratch_after find s ws e (C.Pair i p n) = ws
-scratch_after find s ws e (C.To x i n) = ws
-scratch_after find s ws e (C.By x i n) = ws
-scratch_after find s ws e (C.Page i n) = ws
-scratch_after find s ws e (C.Font i n) = ws
-scratch_after find s ws e (C.Size i n) = ws
-scratch_after find s ws e (C.Colour x a b c d n) = ws
-scratch_after find s ws e (C.Break n) = ws
-scratch_after find s ws e (C.Space n) = ws
-scratch_after find s ws e (C.Draw b h v k n) = ws
-scratch_after find s ws e (C.Gray i n) = ws
-scratch_after find s ws e (C.Fill x a b c d n) = ws
-scratch_after find s ws e (C.Device p l n) = ws
-scratch_after find s ws e (C.Resolution q n) = ws
-scratch_after find s ws e (C.Init n) = ws
-scratch_after find s ws e (C.File p l n) = ws
 scratch_after find s ws e (C.Mount i p l n) = if in_body e then set ws i (find (take l (drop p s)) + 1) else ws
-scratch_after find s ws e (C.Plain b n) = ws
-scratch_after find s ws e (C.Raw n) = ws
-scratch_after find s ws e (C.Stop n) = ws
-scratch_after find s ws e (C.Refused i p) = ws
+scratch_after find s ws e _ = ws
+
+-- and behind what was scanned
+abbrev pub scratch_on : (List ℕ → ℕ) → List ℕ → List ℕ → Environment → Result Command Refusal → List ℕ
+scratch_on find s ws e (Ok c) = scratch_after find s ws e c
+scratch_on find s ws e (Err r) = ws
 
 -- ---- the state
 
@@ -170,18 +110,25 @@ emitted n st next e (E.Entry x) =
 emitted n st next e (E.Word w) =
     if ltb (st.rmax - st.records) w.left then halted st 13 else record { effect = filling (fills_records st.fill) (F.Word st.records w); state = gone_to n st next (st.records + w.left) st.entries e }
 
--- "For refusal 6 the offset is now the first byte of the argument outside its limit" (2026-12)
-abbrev pub point_of : ℕ → ℕ → ℕ → ℕ
-point_of at next k = if eqb k 6 then next else at
+-- stopped by a refusal
+abbrev pub halted_by : State → Refusal → Turned
+halted_by st r = halted_at r.offset st r.number
 
-abbrev pub done_of : ℕ → State → ℕ → Did → Turned
-done_of n st next d = if eqb d.refusal 0 then emitted n st next d.env d.emitted else halted_at (point_of st.at next d.refusal) st d.refusal
+abbrev pub done_of : ℕ → State → ℕ → Result Did Refusal → Turned
+done_of n st next (Ok d) = emitted n st next d.env d.emitted
+done_of n st next (Err r) = halted_by st r
 
 abbrev pub skipped : ℕ → State → ℕ → Turned
 skipped n st next = record { effect = F.Nothing; state = gone_to n st next st.records st.entries st.env }
 
-abbrev pub turn_on : List ℕ → List ℕ → State → Command → Turned
-turn_on s ws st c = done_of (length s) st (next_of c) (did_at s ws st.unitwidth st.env st.at c)
+-- a command that no rule reads: behind `x s` "a byte of anything" is 7, at its place
+abbrev pub late : Environment → ℕ → Refusal → Refusal
+late e at r = if eqb e.phase 4 then refusal 7 at else r
+
+-- what was scanned at the state's place
+abbrev pub turn_on : List ℕ → List ℕ → State → Result Command Refusal → Turned
+turn_on s ws st (Ok c) = done_of (length s) st (next_of c) (did_at s ws st.unitwidth st.env st.at c)
+turn_on s ws st (Err r) = halted_by st (late st.env st.at r)
 
 unfoldable pub turn_of : List ℕ → List ℕ → State → Turned
 turn_of s ws st =
@@ -193,4 +140,4 @@ unfoldable pub scratch_of : (List ℕ → ℕ) → List ℕ → List ℕ → Sta
 scratch_of find s ws st =
     if is_white (get_or s st.at 0) then ws else
     if is "#" (get_or s st.at 0) then ws else
-    scratch_after find s ws st.env (command_at s st.at)
+    scratch_on find s ws st.env (command_at s st.at)

@@ -3,117 +3,96 @@
 
 ghost use Rattle.std.specs.Prelude.{◌≡◌, ◌<◌};
 ghost use Rattle.read_model.specs.declared.Emitted.TheVariants as E;
-ghost use Rattle.read_model.specs.Environment.{with_size, with_gap, with_ink, doing, on_page_or, in_body_or, to_on, by_on, page_on, font_on};
+ghost use Rattle.read_model.specs.Environment.{with_size, with_gap, with_ink, doing, on_page_or, in_body_or, along, with_along, to_on, by_on, page_on, font_on};
 ghost use Rattle.read_environment.specs.Bounds.{Fits};
-ghost use Rattle.read_motion.specs.Axes.{axis_of, with_axis};
 
-use read_environment::{
-    doing, gone, in_body, on_page, refusing, with_font, with_gap, with_ink, with_page, with_size,
-    with_spot,
-};
+use read_environment::{asked, doing, gone, in_body, on_page, placed};
 use read_model::{Did, Emitted, Environment};
-use rules::Colour;
+use rules::{Colour, Refusal};
+use scan_command::Axis;
 
-fn axis_of(e: Environment, axis: u32) -> u32
-    ensures { result ≡ axis_of e axis }
+// Where the environment stands along an axis.
+fn along(e: Environment, axis: Axis) -> u32
+    ensures { result ≡ along e axis }
 {
-    if axis == 0 { e.h } else { e.v }
+    match axis {
+        Axis::Across => e.h,
+        Axis::Down => e.v,
+    }
 }
 
-fn with_axis(e: Environment, axis: u32, n: u32) -> Environment
-    ensures { result ≡ with_axis e axis n }
+fn with_along(e: Environment, axis: Axis, n: u32) -> Environment
+    ensures { result ≡ with_along e axis n }
 {
-    if axis == 0 {
-        with_spot(e, n, e.v)
-    } else {
-        with_spot(e, e.h, n)
+    match axis {
+        Axis::Across => Environment { h: n, ..e },
+        Axis::Down => Environment { v: n, ..e },
     }
 }
 
 // `H`, `V`
-pub fn to_on(e: Environment, axis: u32, n: u32) -> Did
-    ensures { result ≡ on_page_or e (to_on e axis n) }
+pub fn to_on(e: Environment, at: usize, axis: Axis, n: u32) -> Result<Did, Refusal>
+    ensures { result ≡ on_page_or e at (to_on e axis n) }
 {
-    if on_page(e) {
-        doing(with_axis(e, axis, n), Emitted::Nothing)
-    } else {
-        refusing(e, 7)
-    }
+    on_page(e, at)?;
+    doing(with_along(e, axis, n), Emitted::Nothing)
 }
 
 // `h`, `v`
-pub fn by_on(e: Environment, axis: u32, n: u32) -> Did
-    ensures { result ≡ on_page_or e (by_on e axis n) }
+pub fn by_on(e: Environment, at: usize, axis: Axis, n: u32) -> Result<Did, Refusal>
+    ensures { result ≡ on_page_or e at (by_on e at axis n) }
 {
-    if on_page(e) {
-        let x = gone(100_000_000, (axis_of(e, axis) as u64) + (n as u64));
-        if x == 0 {
-            refusing(e, 10)
-        } else {
-            doing(with_axis(e, axis, x), Emitted::Nothing)
-        }
-    } else {
-        refusing(e, 7)
-    }
+    on_page(e, at)?;
+    let x = placed(gone(100_000_000, (along(e, axis) as u64) + (n as u64)), at)?;
+    doing(with_along(e, axis, x), Emitted::Nothing)
 }
 
-// `p`
-pub fn page_on(e: Environment, n: u32) -> Did
+// `p`: v goes back to its origin, and a gap stands before the first record.
+pub fn page_on(e: Environment, at: usize, n: u32) -> Result<Did, Refusal>
     requires { Fits e }
-    ensures { result ≡ in_body_or e (page_on e n) }
+    ensures { result ≡ in_body_or e at (page_on e n) }
 {
-    if in_body(e) {
-        doing(with_page(e, e.ordinal + 1, n), Emitted::Nothing)
-    } else {
-        refusing(e, 7)
-    }
+    in_body(e, at)?;
+    let next = Environment {
+        ordinal: e.ordinal + 1,
+        number: n,
+        v: 100_000_000,
+        gap: 1,
+        ..e
+    };
+    doing(next, Emitted::Nothing)
 }
 
 // `f`: m is what the mounts hold at the position, 0 for none.
-pub fn font_on(e: Environment, n: u32, m: u32) -> Did
+pub fn font_on(e: Environment, at: usize, n: u32, m: u32) -> Result<Did, Refusal>
     requires { n < 256 }
-    ensures { result ≡ in_body_or e (font_on e n m) }
+    ensures { result ≡ in_body_or e at (font_on e at n m) }
 {
-    if in_body(e) {
-        if m == 0 {
-            refusing(e, 8)
-        } else {
-            doing(with_font(e, n + 1), Emitted::Nothing)
-        }
-    } else {
-        refusing(e, 7)
-    }
+    in_body(e, at)?;
+    asked(0 < m, 8, at)?;
+    doing(Environment { font: n + 1, ..e }, Emitted::Nothing)
 }
 
 // `s`
-pub fn size_on(e: Environment, n: u32) -> Did
-    ensures { result ≡ in_body_or e (doing (with_size e n) E.Nothing) }
+pub fn size_on(e: Environment, at: usize, n: u32) -> Result<Did, Refusal>
+    ensures { result ≡ in_body_or e at (doing (with_size e n) E.Nothing) }
 {
-    if in_body(e) {
-        doing(with_size(e, n), Emitted::Nothing)
-    } else {
-        refusing(e, 7)
-    }
+    in_body(e, at)?;
+    doing(Environment { size: n, ..e }, Emitted::Nothing)
 }
 
 // `m`
-pub fn ink_on(e: Environment, ink: Colour) -> Did
-    ensures { result ≡ in_body_or e (doing (with_ink e ink) E.Nothing) }
+pub fn ink_on(e: Environment, at: usize, ink: Colour) -> Result<Did, Refusal>
+    ensures { result ≡ in_body_or e at (doing (with_ink e ink) E.Nothing) }
 {
-    if in_body(e) {
-        doing(with_ink(e, ink), Emitted::Nothing)
-    } else {
-        refusing(e, 7)
-    }
+    in_body(e, at)?;
+    doing(Environment { ink, ..e }, Emitted::Nothing)
 }
 
 // `n`, `w`
-pub fn gap_on(e: Environment) -> Did
-    ensures { result ≡ in_body_or e (doing (with_gap e 1) E.Nothing) }
+pub fn gap_on(e: Environment, at: usize) -> Result<Did, Refusal>
+    ensures { result ≡ in_body_or e at (doing (with_gap e 1) E.Nothing) }
 {
-    if in_body(e) {
-        doing(with_gap(e, 1), Emitted::Nothing)
-    } else {
-        refusing(e, 7)
-    }
+    in_body(e, at)?;
+    doing(Environment { gap: 1, ..e }, Emitted::Nothing)
 }

@@ -6,7 +6,7 @@ ghost use Rattle.read_model.specs.Turns.{next_of};
 
 use scan_command::Command;
 
-// The place behind a command, or at which the refusal of one points.
+// The place behind a command.
 pub fn next_of(c: Command) -> usize
     ensures { result ≡ next_of c }
 {
@@ -34,6 +34,5 @@ pub fn next_of(c: Command) -> usize
         Command::Plain { next, .. } => next,
         Command::Raw { next } => next,
         Command::Stop { next } => next,
-        Command::Refused { place, .. } => place,
     }
 }

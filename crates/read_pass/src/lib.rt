@@ -30,8 +30,8 @@ pub fn pass(
         let effect = x.effect;
         match effect {
             Effect::Nothing => {}
-            Effect::Record(i, r) => read_rows::put_record(records, i, r),
-            Effect::Entry(i, y) => read_rows::put_entry(entries, i, y),
+            Effect::Record(i, r) => rowkit::put(records, i, r),
+            Effect::Entry(i, y) => rowkit::put(entries, i, y),
             Effect::Word(k, w) => read_rows::fill_word(records, s, ws, k, w),
         }
         st = x.state;

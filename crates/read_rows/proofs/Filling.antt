@@ -23,6 +23,7 @@ fill_done (suc n) s ws i d row h = absurd (omega arith)
 -- where the next record is set: what is left of the word is d, and its record goes to i
 pub record Filled (s ws : List ℕ) (k : ℕ) (w : Word) (ys : List Record) (i : ℕ) (d : Word) (row : List Record) : Type 0 where
   pub within : WordIn s ws (length row) i d
+  pub left : i + d.left ≡ k + w.left
   pub runs : word_fill d.left s ws i d row ≡ word_fill w.left s ws k w ys
 
 module _ (s ws : List ℕ) (n i : ℕ) (d : Word) (v : WordIn s ws n i d) (l : 0 < d.left) where
@@ -36,5 +37,6 @@ module _ (s ws : List ℕ) (k : ℕ) (w : Word) (ys : List Record) (i : ℕ) (d 
   pub filled_more : Filled s ws k w ys i d row → 0 < d.left → (x : Spelt) → x ≡ spelt_of s ws d → (row' : List Record) → row' ≡ set row i x.row → Filled s ws k w ys (i + 1) x.next row'
   filled_more f h x e row' e' = rw (e', e) (record {
     within = rw length-set (next_in s ws (length row) i d f.within h);
+    left = omega (arith, f.left);
     runs = sym (fill_next d.left (d.left - 1) s ws i d row (omega arith)) ∙ f.runs;
   })

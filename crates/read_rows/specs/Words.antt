@@ -1,5 +1,5 @@
 -- A word that fits into a lent row.
-use Rattle.std.specs.Prelude.{ℕ, ◌+◌, ◌<◌, ◌≤◌, List}
+use Rattle.std.specs.Prelude.{ℕ, ◌+◌, ◌≤◌, List, IsSome}
 use Rattle.read_model.specs.declared.Word.{Word}
 use Rattle.read_model.specs.Words.{word_end}
 use Rattle.read_word.specs.Bounds.{Small, WordFits}
@@ -8,5 +8,5 @@ use Rattle.read_word.specs.Bounds.{Small, WordFits}
 pub record WordIn (s ws : List ℕ) (n k : ℕ) (w : Word) : Type 0 where
   pub fits : WordFits w
   pub small : Small ws
-  pub ends : 0 < word_end w.left s ws w
+  pub ends : IsSome (word_end w.left s ws w)
   pub room : k + w.left ≤ n

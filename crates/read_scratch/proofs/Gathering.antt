@@ -1,217 +1,180 @@
 -- The scratch row: made from what the width list left, and cleared.
-use Rattle.std.specs.Prelude.{if◌then◌else◌}
-use Prim.Native.Nat.{ℕ, zero, suc, ◌+◌, ◌*◌, ◌-◌, ◌/◌, ◌%◌, ◌<◌, ◌≤◌}
+use Prim.Native.Nat.{ℕ, ◌+◌, ◌*◌, ◌-◌, ◌/◌, ◌%◌, ◌<◌, ◌≤◌}
 use native.Mathlib.Nat.{div-add-mod'}
 use native.Mathlib.Omega.{arith}
-use native.Mathlib.Decide.{ℕ_discrete}
-use mathlib.Core.Bool.{Bool, true, false}
-use mathlib.Core.List.{List}
+use mathlib.Core.List.{List, ◌++◌}
 use mathlib.Core.Path.{◌≡◌, refl, sym, ap, subst, ◌∙◌}
 use lib.Dec.{ltb}
-use lib.ListN.{length, take, drop, get_or, set, length-set, get_or-eq_default}
+use lib.ListN.{length, take, drop, get_or, set, length-set, length-take, length-drop, length-append, get_or-append}
+use Rattle.std.proofs.lemmas.List.{get_or-append_right}
 use lib.Seq.{get_or-set_same, get_or-set_other, get_or-take, get_or-drop}
-use borrow.Author.Rules.{rules}
-use borrow.Author.Tests.{lt-ltb, le-ltb, ltb-true, ltb-false}
+use borrow.Author.Tests.{ltb-true, ltb-false}
+use borrow.Rule.Slice.PartMut.{put_mid, same_len_mid}
+use Rattle.std.proofs.Common.{below_more}
+use Rattle.std.proofs.lemmas.Slice.{take-put_mid_below, drop-put_mid, between-put_mid}
+use Rattle.std.specs.Prelude.{Ok}
 use Rattle.rules.specs.Widths.{Font, Widths, WidthList, unsound, sound, width_list}
-use Rattle.laws.proofs.Cases.{if_on}
-use Rattle.widths.specs.declared.ListAnswer.{ListAnswer}
-use Rattle.widths.specs.declared.ListAnswer.TheVariants as L
+use Rattle.laws.proofs.Cases.{on}
+use Rattle.widths.specs.declared.Sound.{Sound}
 use Rattle.widths.specs.Table.{list_of, Loaded}
-use Rattle.widths_table.specs.Table.{TableOf, NamesOf}
+use Rattle.widths_table.specs.declared.Block.{Block}
+use Rattle.widths_table.specs.Blocks.{no_block, BlocksOf}
+use Rattle.widths_table.specs.Table.{TableOf}
 use Rattle.widths_table.proofs.Bounds.{sound_entry, sound_few}
 use Rattle.read_turn.specs.Ready.{Scratch}
-use Rattle.read_scratch.specs.Scratch.{scratch_at, Gathered, ScratchOf, Holding, Unmounted}
+use Rattle.read_scratch.specs.Scratch.{Gathered, ScratchOf, Holding, Unmounted}
 
--- ---- one place
+-- ---- a part of a row, written
+module _ (xs ys : List ℕ) (a m : ℕ) (h : a + m ≤ length xs) (l : length ys ≡ m) where
+  part_below : (i : ℕ) → i < a → get_or (put_mid a m xs ys) i 0 ≡ get_or xs i 0
+  part_below i q =
+      sym (get_or-take a (put_mid a m xs ys) i 0 q) ∙ ap (λ (z : List ℕ). get_or z i 0) (take-put_mid_below a m xs ys a (omega arith) (omega arith)) ∙ get_or-take a xs i 0 q
 
-module _ (table places lens : List ℕ) (fonts i : ℕ) where
-  pub at_mounts : i < 256 → 0 ≡ scratch_at table places lens fonts i
-  at_mounts h = rw (lt-ltb i 256 h)
+  part_above : (i : ℕ) → a + m ≤ i → get_or (put_mid a m xs ys) i 0 ≡ get_or xs i 0
+  part_above i q =
+      let e : i ≡ a + m + (i - (a + m)) = omega arith in
+      rw e (
+      sym (get_or-drop (a + m) (put_mid a m xs ys) (i - (a + m)) 0)
+      ∙ ap (λ (z : List ℕ). get_or z (i - (a + m)) 0) (drop-put_mid a m xs ys (a + m) (omega arith) (omega arith) l)
+      ∙ get_or-drop (a + m) xs (i - (a + m)) 0
+      )
 
-  module _ (a : 256 ≤ i) where
-    pub at_table : (x : ℕ) → i < 256 + fonts * 256 → x ≡ get_or table (i - 256) 0 → x ≡ scratch_at table places lens fonts i
-    at_table x h e = rw (le-ltb i 256 a, lt-ltb i (256 + fonts * 256) h, e)
+  part_within : (i : ℕ) → i < m → get_or (put_mid a m xs ys) (a + i) 0 ≡ get_or ys i 0
+  part_within i q =
+      let e : a + m - a ≡ m = omega arith in
+      sym (get_or-drop a (put_mid a m xs ys) i 0)
+      ∙ sym (get_or-take m (drop a (put_mid a m xs ys)) i 0 q)
+      ∙ ap (λ (z : List ℕ). get_or z i 0) (rw e at (between-put_mid a m xs ys (a + m) (omega arith) (omega arith)))
 
-    module _ (b : 256 + fonts * 256 ≤ i) where
-      pub at_empty : i < 8704 → 0 ≡ scratch_at table places lens fonts i
-      at_empty h = rw (le-ltb i 256 a, le-ltb i (256 + fonts * 256) b, lt-ltb i 8704 h)
+-- ---- font by font
+module _ (table : List Block) (k : ℕ) (ws ys : List ℕ) (m p l : ℕ) (g : Gathered table k ws) (few : k < 32) (em : m ≡ 256) (long : length ys ≡ 256) where
+  abbrev written : List ℕ
+  written = put_mid (256 + k * 256) m ws ys
 
-      module _ (d : 8704 ≤ i) where
-        pub at_places : (x : ℕ) → i < 8704 + fonts → x ≡ get_or places (i - 8704) 0 → x ≡ scratch_at table places lens fonts i
-        at_places x h e = rw (le-ltb i 256 a, le-ltb i (256 + fonts * 256) b, le-ltb i 8704 d, lt-ltb i (8704 + fonts) h, e)
+  abbrev row : List ℕ
+  row = set (set written (8704 + k) p) (8736 + k) l
 
-        module _ (f : 8704 + fonts ≤ i) where
-          pub at_no_place : i < 8736 → 0 ≡ scratch_at table places lens fonts i
-          at_no_place h = rw (le-ltb i 256 a, le-ltb i (256 + fonts * 256) b, le-ltb i 8704 d, le-ltb i (8704 + fonts) f, lt-ltb i 8736 h)
+  fits : 256 + k * 256 + m ≤ length ws
+  fits = omega (arith, g.size)
 
-          module _ (g : 8736 ≤ i) where
-            pub at_lens : (x : ℕ) → i < 8736 + fonts → x ≡ get_or lens (i - 8736) 0 → x ≡ scratch_at table places lens fonts i
-            at_lens x h e = rw (le-ltb i 256 a, le-ltb i (256 + fonts * 256) b, le-ltb i 8704 d, le-ltb i (8704 + fonts) f, le-ltb i 8736 g, lt-ltb i (8736 + fonts) h, e)
+  written_long : length written ≡ 8768
+  written_long = same_len_mid (256 + k * 256) m ws ys (omega (arith, fits, length-take m (drop (256 + k * 256) ws), length-drop (256 + k * 256) ws)) ∙ g.size
 
-            pub at_end : 8736 + fonts ≤ i → 0 ≡ scratch_at table places lens fonts i
-            at_end h = rw (le-ltb i 256 a, le-ltb i (256 + fonts * 256) b, le-ltb i 8704 d, le-ltb i (8704 + fonts) f, le-ltb i 8736 g, le-ltb i (8736 + fonts) h)
+  low : (i : ℕ) → i < 8704 → get_or row i 0 ≡ get_or written i 0
+  low i h =
+      get_or-set_other (set written (8704 + k) p) (8736 + k) i l 0 (λ (e : i ≡ 8736 + k). omega arith) ∙ get_or-set_other written (8704 + k) i p 0 (λ (e : i ≡ 8704 + k). omega arith)
 
--- ---- place by place
+  high : (i : ℕ) → 8704 ≤ i → (i ≡ 8704 + k → ⊥) → (i ≡ 8736 + k → ⊥) → get_or row i 0 ≡ get_or ws i 0
+  high i h a b =
+      get_or-set_other (set written (8704 + k) p) (8736 + k) i l 0 b ∙ get_or-set_other written (8704 + k) i p 0 a ∙ part_above ws ys (256 + k * 256) m fits (omega arith) i (omega arith)
 
-pub record Gathering (table places lens : List ℕ) (fonts : ℕ) (ws : List ℕ) (i : ℕ) : Type 0 where
-  pub size : length ws ≡ 8768
-  pub each : (j : ℕ) → j < i → get_or ws j 0 ≡ scratch_at table places lens fonts j
-  pub within : i ≤ 8768
+  widths_more : (ys ≡ (get_or table k no_block).widths) → (i b : ℕ) → i < k + 1 → b < 256 → get_or row (256 + (i * 256 + b)) 0 ≡ get_or (get_or table i no_block).widths b 0
+  widths_more e i b h q =
+      below_more (λ (i : ℕ). get_or row (256 + (i * 256 + b)) 0 ≡ get_or (get_or table i no_block).widths b 0) k
+      (λ i c. low (256 + (i * 256 + b)) (omega arith) ∙ part_below ws ys (256 + k * 256) m fits (omega arith) (256 + (i * 256 + b)) (omega arith) ∙ g.widths i b c q)
+      (let z : 256 + (k * 256 + b) ≡ 256 + k * 256 + b = omega arith in
+      low (256 + (k * 256 + b)) (omega arith) ∙ rw z (part_within ws ys (256 + k * 256) m fits (omega arith) b (omega arith)) ∙ ap (λ (z : List ℕ). get_or z b 0) e)
+      i h
 
-module _ (table places lens : List ℕ) (fonts : ℕ) (ws : List ℕ) where
-  pub gathering_start : length ws ≡ 8768 → Gathering table places lens fonts ws 0
-  gathering_start h = record { size = h; each = λ j l. absurd (omega arith); within = omega arith }
-
-  pub gathering_more : (i x : ℕ) → Gathering table places lens fonts ws i → i < 8768 → x ≡ scratch_at table places lens fonts i → Gathering table places lens fonts (set ws i x) (i + 1)
-  gathering_more i x v h e = record {
-    size = length-set ws i x ∙ v.size;
-    each = λ j l. go j l (ℕ_discrete j i);
-    within = omega arith;
+  pub gathered_more : ys ≡ (get_or table k no_block).widths → p ≡ (get_or table k no_block).name.place → l ≡ (get_or table k no_block).name.len → Gathered table (k + 1) row
+  gathered_more e ep el = record {
+    size = length-set (set written (8704 + k) p) (8736 + k) l ∙ length-set written (8704 + k) p ∙ written_long;
+    none = λ i h. low i (omega arith) ∙ part_below ws ys (256 + k * 256) m fits (omega arith) i (omega arith) ∙ g.none i h;
+    widths = widths_more e;
+    empty = λ i h q. low i q ∙ part_above ws ys (256 + k * 256) m fits (omega arith) i (omega arith) ∙ g.empty i (omega arith) q;
+    places =
+        below_more (λ (i : ℕ). get_or row (8704 + i) 0 ≡ (get_or table i no_block).name.place) k
+        (λ i c. high (8704 + i) (omega arith) (λ (z : 8704 + i ≡ 8704 + k). omega arith) (λ (z : 8704 + i ≡ 8736 + k). omega arith) ∙ g.places i c)
+        (get_or-set_other (set written (8704 + k) p) (8736 + k) (8704 + k) l 0 (λ (z : 8704 + k ≡ 8736 + k). omega arith)
+        ∙ get_or-set_same written (8704 + k) p 0 (omega (arith, written_long))
+        ∙ ep);
+    no_places = λ i h q. high i (omega arith) (λ (z : i ≡ 8704 + k). omega arith) (λ (z : i ≡ 8736 + k). omega arith) ∙ g.no_places i (omega arith) q;
+    lens =
+        below_more (λ (i : ℕ). get_or row (8736 + i) 0 ≡ (get_or table i no_block).name.len) k
+        (λ i c. high (8736 + i) (omega arith) (λ (z : 8736 + i ≡ 8704 + k). omega arith) (λ (z : 8736 + i ≡ 8736 + k). omega arith) ∙ g.lens i c)
+        (get_or-set_same (set written (8704 + k) p) (8736 + k) l 0 (omega (arith, written_long, length-set written (8704 + k) p)) ∙ el);
+    no_lens = λ i h. high i (omega arith) (λ (z : i ≡ 8704 + k). omega arith) (λ (z : i ≡ 8736 + k). omega arith) ∙ g.no_lens i (omega arith);
   }
-    where
-      go : (j : ℕ) → j < i + 1 → Dec (j ≡ i) → get_or (set ws i x) j 0 ≡ scratch_at table places lens fonts j
-      go j l (yes q) = rw (q, get_or-set_same ws i x 0 (omega (arith, v.size))) e
-      go j l (no q) = get_or-set_other ws i j x 0 q ∙ v.each j (omega arith)
-
-  pub gathering_over : (i : ℕ) → Gathering table places lens fonts ws i → 8768 ≤ i → Gathered table places lens fonts ws
-  gathering_over i v h = record { size = v.size; each = λ j l. v.each j (omega arith) }
-
-pub ruleset gathering = (at_mounts, at_table, at_empty, at_places, at_no_place, at_lens, at_end, gathering_start, gathering_more, gathering_over, rules)
 
 -- ---- what it holds then
-
-module _ (list table places lens ws : List ℕ) (w : Widths) (g : Gathered table places lens (length w.fonts) ws) (short : length list ≤ 65536) (q : width_list list ≡ sound w) (t : TableOf w.fonts table) (n : NamesOf list w.fonts places lens) where
+module _ (list : List ℕ) (table : List Block) (ws : List ℕ) (w : Widths) (g : Gathered table (length w.fonts) ws) (short : length list ≤ 65536) (q : width_list list ≡ sound w)
+    (t : BlocksOf list w.fonts table) where
   abbrev fs : List Font
   fs = w.fonts
 
   few : length fs ≤ 32
   few = sound_few list w q
 
-  entry_small : (j : ℕ) → j < length fs * 256 → get_or table j 0 ≤ 100001
-  entry_small j h =
-      let e : j ≡ j / 256 * 256 + j % 256 = sym (div-add-mod' j 256) in
-      let l : j / 256 < length fs = omega arith in
-      let r : j % 256 < 256 = omega arith in
-      subst (λ (k : ℕ). get_or table k 0 ≤ 100001) (sym e) (rw (t (j / 256) (j % 256) l r) (sound_entry list w q (j / 256) (j % 256)))
+  width_small : (i : ℕ) → i < length fs * 256 → get_or ws (256 + i) 0 ≤ 100001
+  width_small i h =
+      let e : i ≡ i / 256 * 256 + i % 256 = sym (div-add-mod' i 256) in
+      let l : i / 256 < length fs = omega arith in
+      let r : i % 256 < 256 = omega arith in
+      subst (λ (j : ℕ). get_or ws (256 + j) 0 ≤ 100001) (sym e) (rw (g.widths (i / 256) (i % 256) l r, (t (i / 256) l).widths (i % 256) r) (sound_entry list w q (i / 256) (i % 256)))
 
-  name_small : (i : ℕ) → i < length fs → get_or places i 0 + get_or lens i 0 ≤ 100001
-  name_small i h = omega (arith, (n i h).0)
+  place_small : (i : ℕ) → i < length fs → get_or ws (8704 + i) 0 ≤ 100001
+  place_small i h = omega (arith, g.places i h, (t i h).within)
 
-  at_most : (i : ℕ) → scratch_at table places lens (length fs) i ≤ 100001
+  len_small : (i : ℕ) → i < length fs → get_or ws (8736 + i) 0 ≤ 100001
+  len_small i h = omega (arith, g.lens i h, (t i h).within)
+
+  at_most : (i : ℕ) → get_or ws i 0 ≤ 100001
   at_most i =
-      let P : ℕ → Type 0 = λ y. y ≤ 100001 in
-      let f : ℕ = length fs in
-      if_on P (ltb i 256) 0 _ (λ a. omega arith)
-      (λ a. if_on P (ltb i (256 + f * 256)) (get_or table (i - 256) 0) _ (λ b. entry_small (i - 256) (omega (arith, ltb-true i (256 + f * 256) b, ltb-false i 256 a)))
-      (λ b. if_on P (ltb i 8704) 0 _ (λ c. omega arith)
-      (λ c. if_on P (ltb i (8704 + f)) (get_or places (i - 8704) 0) _ (λ d. omega (arith, name_small (i - 8704) (omega (arith, ltb-true i (8704 + f) d, ltb-false i 8704 c))))
-      (λ d. if_on P (ltb i 8736) 0 _ (λ k. omega arith)
-      (λ k. if_on P (ltb i (8736 + f)) (get_or lens (i - 8736) 0) 0 (λ l. omega (arith, name_small (i - 8736) (omega (arith, ltb-true i (8736 + f) l, ltb-false i 8736 k)))) (λ l. omega arith))))))
-
-  gathered_small : Scratch ws
-  gathered_small = record { size = g.size; small = record { each = λ i. go i (8768 - i) refl } }
-    where
-      go : (i k : ℕ) → 8768 - i ≡ k → get_or ws i 0 ≤ 100001
-      go i zero e = let z : length ws ≤ i = omega (arith, g.size) in rw (get_or-eq_default ws 0 z) (omega arith)
-      go i (suc k) e = rw (g.each i (omega arith)) (at_most i)
+      let n : ℕ = length fs in
+      let back : (a : ℕ) → a ≤ i → get_or ws (a + (i - a)) 0 ≤ 100001 → get_or ws i 0 ≤ 100001 = λ a h. subst (λ (j : ℕ). get_or ws j 0 ≤ 100001) (let e : a + (i - a) ≡ i = omega arith in e) in
+      on (ltb i 256) (λ a. omega (arith, g.none i (ltb-true i 256 a)))
+      (λ a. on (ltb i (256 + n * 256)) (λ b. back 256 (ltb-false i 256 a) (width_small (i - 256) (omega (arith, ltb-true i (256 + n * 256) b, ltb-false i 256 a))))
+      (λ b. on (ltb i 8704) (λ c. omega (arith, g.empty i (ltb-false i (256 + n * 256) b) (ltb-true i 8704 c)))
+      (λ c. on (ltb i (8704 + n)) (λ d. back 8704 (ltb-false i 8704 c) (place_small (i - 8704) (omega (arith, ltb-true i (8704 + n) d, ltb-false i 8704 c))))
+      (λ d. on (ltb i 8736) (λ k. omega (arith, g.no_places i (ltb-false i (8704 + n) d) (ltb-true i 8736 k)))
+      (λ k. on (ltb i (8736 + n)) (λ l. back 8736 (ltb-false i 8736 k) (len_small (i - 8736) (omega (arith, ltb-true i (8736 + n) l, ltb-false i 8736 k))))
+      (λ l. omega (arith, g.no_lens i (ltb-false i (8736 + n) l))))))))
 
   table_kept : TableOf fs (take 8192 (drop 256 ws))
   table_kept i b h k =
-      let a : i * 256 + b < 8192 = omega (arith, few) in
-      let o : i * 256 + b < length fs * 256 = omega arith in
-      get_or-take 8192 (drop 256 ws) (i * 256 + b) 0 a
-      ∙ get_or-drop 256 ws (i * 256 + b) 0
-      ∙ g.each (256 + (i * 256 + b)) (omega arith)
-      ∙ sym (at_table table places lens (length fs) (256 + (i * 256 + b)) (omega arith) (get_or table (i * 256 + b) 0) (omega arith) (ap (λ (j : ℕ). get_or table j 0) (omega arith)))
-      ∙ t i b h k
+      get_or-take 8192 (drop 256 ws) (i * 256 + b) 0 (omega (arith, few)) ∙ get_or-drop 256 ws (i * 256 + b) 0 ∙ g.widths i b h k ∙ (t i h).widths b k
 
-  place_kept : (i : ℕ) → i < length fs → get_or (take 32 (drop 8704 ws)) i 0 ≡ get_or places i 0
-  place_kept i h =
-      get_or-take 32 (drop 8704 ws) i 0 (omega (arith, few))
-      ∙ get_or-drop 8704 ws i 0
-      ∙ g.each (8704 + i) (omega (arith, few))
-      ∙ sym (at_places table places lens (length fs) (8704 + i) (omega arith) (omega (arith, few)) (omega arith) (get_or places i 0) (omega arith) (ap (λ (j : ℕ). get_or places j 0) (omega arith)))
+  place_kept : (i : ℕ) → i < length fs → get_or (take 32 (drop 8704 ws)) i 0 ≡ (get_or table i no_block).name.place
+  place_kept i h = get_or-take 32 (drop 8704 ws) i 0 (omega (arith, few)) ∙ get_or-drop 8704 ws i 0 ∙ g.places i h
 
-  len_kept : (i : ℕ) → i < length fs → get_or (take 32 (drop 8736 ws)) i 0 ≡ get_or lens i 0
-  len_kept i h =
-      get_or-take 32 (drop 8736 ws) i 0 (omega (arith, few))
-      ∙ get_or-drop 8736 ws i 0
-      ∙ g.each (8736 + i) (omega (arith, few))
-      ∙ sym (at_lens table places lens (length fs) (8736 + i) (omega arith) (omega (arith, few)) (omega arith) (omega (arith, few)) (omega arith) (get_or lens i 0) (omega arith) (ap (λ (j : ℕ). get_or lens j 0) (omega arith)))
+  len_kept : (i : ℕ) → i < length fs → get_or (take 32 (drop 8736 ws)) i 0 ≡ (get_or table i no_block).name.len
+  len_kept i h = get_or-take 32 (drop 8736 ws) i 0 (omega (arith, few)) ∙ get_or-drop 8736 ws i 0 ∙ g.lens i h
 
   gathered_of : ScratchOf list fs ws
   gathered_of = record {
-    scratch = gathered_small;
-    none = λ i h. g.each i (omega arith) ∙ sym (at_mounts table places lens (length fs) i h);
+    scratch = record { size = g.size; small = record { each = at_most } };
+    none = g.none;
     table = table_kept;
-    empty = λ b h. g.each (8448 + b) (omega arith) ∙ sym (at_empty table places lens (length fs) (8448 + b) (omega arith) (omega (arith, few)) (omega arith));
-    names = λ i h. rw (place_kept i h, len_kept i h) (n i h);
+    empty = λ b h. g.empty (8448 + b) (omega (arith, few)) (omega arith);
+    names = λ i h. rw (place_kept i h, len_kept i h) ((t i h).within, (t i h).name);
   }
 
 -- ---- what the answer tells of the list
-
-pub still-told : (list : List ℕ) (x y : ListAnswer) → x ≡ list_of (width_list list) → x ≡ y → y ≡ list_of (width_list list)
-still-told list x y e q = sym q ∙ e
-
-pub few_fonts : (list : List ℕ) (x : ListAnswer) (u k : ℕ) → x ≡ list_of (width_list list) → x ≡ L.Sound u k → k ≤ 32
-few_fonts list x u k e q = go (width_list list) refl (sym q ∙ e)
+pub sound_holds : (list : List ℕ) (x : Sound) → Ok x ≡ list_of (width_list list) → (table : List Block) (ws : List ℕ) → length list ≤ 65536 → Loaded list table (width_list list)
+    → Gathered table x.fonts ws → Holding list ws (width_list list)
+sound_holds list x e table ws short l g = by (width_list list) refl e l
   where
-    go : (y : WidthList) → width_list list ≡ y → L.Sound u k ≡ list_of y → k ≤ 32
-    go (unsound at) p h = absurd (let z : ◌≡◌ {A = ℕ} 0 1 = cc in omega arith)
-    go (sound w) p h = let f : k ≡ length w.fonts = cc in omega (arith, sound_few list w p)
-
-module _ (list table places lens : List ℕ) (short : length list ≤ 65536) (l : Loaded list table places lens (width_list list)) (x : ListAnswer) (e : x ≡ list_of (width_list list)) (ws : List ℕ) where
-  pub sound_holds : (u k : ℕ) → x ≡ L.Sound u k → Gathered table places lens k ws → Holding list ws (width_list list)
-  sound_holds u k q g = go (width_list list) refl (sym q ∙ e) l
-    where
-      go : (y : WidthList) → width_list list ≡ y → L.Sound u k ≡ list_of y → Loaded list table places lens y → Holding list ws y
-      go (unsound at) p h v = absurd (let z : ◌≡◌ {A = ℕ} 0 1 = cc in omega arith)
-      go (sound w) p h v =
-          let f : k ≡ length w.fonts = cc in
-          gathered_of list table places lens ws w (subst (λ (j : ℕ). Gathered table places lens j ws) f g) short p v.0 v.1
-
-pub unsound_holds : (list ws : List ℕ) (x : ListAnswer) (o : ℕ) → x ≡ list_of (width_list list) → x ≡ L.Unsound o → Scratch ws → Holding list ws (width_list list)
-unsound_holds list ws x o e q s = go (width_list list) (sym q ∙ e)
-  where
-    go : (y : WidthList) → L.Unsound o ≡ list_of y → Holding list ws y
-    go (unsound at) h = s
-    go (sound w) h = absurd (let z : ◌≡◌ {A = ℕ} 0 1 = cc in omega arith)
-
-pub ruleset loading = (still-told, few_fonts, sound_holds, unsound_holds, rules)
+    by : (y : WidthList) → width_list list ≡ y → Ok x ≡ list_of y → Loaded list table y → Holding list ws y
+    by (unsound at) p h v = absurd (let z : ◌≡◌ {A = ℕ} 0 1 = cc in omega arith)
+    by (sound w) p h v =
+        let f : x ≡ record { unitwidth = w.unitwidth; fonts = length w.fonts } = cc in
+        gathered_of list table ws w (subst (λ (s : Sound). Gathered table s.fonts ws) f g) short p v
 
 -- ---- cleared
+pub cleared : (ws xs : List ℕ) → Scratch ws → length xs ≡ 256 → ((i : ℕ) → i < 256 → get_or xs i 0 ≡ 0) → Unmounted ws (xs ++ drop 256 ws)
+cleared ws xs s l h = record {
+  scratch = record { size = length-append xs (drop 256 ws) ∙ omega (arith, length-drop 256 ws, s.size); small = record { each = small } };
+  none = λ i q. front i q ∙ h i q;
+  kept = kept;
+}
+  where
+    front : (i : ℕ) → i < 256 → get_or (xs ++ drop 256 ws) i 0 ≡ get_or xs i 0
+    front i q = get_or-append xs (drop 256 ws) 0 i (omega arith)
 
-pub record Clearing (ws ws' : List ℕ) (i : ℕ) : Type 0 where
-  pub scratch : Scratch ws'
-  pub none : (j : ℕ) → j < i → get_or ws' j 0 ≡ 0
-  pub kept : (j : ℕ) → 256 ≤ j → get_or ws' j 0 ≡ get_or ws j 0
-  pub within : i ≤ 256
+    kept : (i : ℕ) → 256 ≤ i → get_or (xs ++ drop 256 ws) i 0 ≡ get_or ws i 0
+    kept i q =
+        let e : 256 + (i - 256) ≡ i = omega arith in
+        get_or-append_right xs (drop 256 ws) 256 i 0 l q ∙ rw e at (get_or-drop 256 ws (i - 256) 0)
 
-module _ (ws : List ℕ) where
-  pub clearing_start : Scratch ws → Clearing ws ws 0
-  clearing_start g = record { scratch = g; none = λ j l. absurd (omega arith); kept = λ j l. refl; within = omega arith }
-
-  module _ (ws' : List ℕ) (i : ℕ) (v : Clearing ws ws' i) where
-    pub clearing_size : length ws' ≡ 8768
-    clearing_size = v.scratch.size
-
-    pub clearing_more : i < 256 → Clearing ws (set ws' i 0) (i + 1)
-    clearing_more h = record {
-      scratch = record { size = length-set ws' i 0 ∙ v.scratch.size; small = record { each = λ j. small j (ℕ_discrete j i) } };
-      none = λ j l. none j l (ℕ_discrete j i);
-      kept = λ j l. get_or-set_other ws' i j 0 0 (λ (e : j ≡ i). omega arith) ∙ v.kept j l;
-      within = omega arith;
-    }
-      where
-        small : (j : ℕ) → Dec (j ≡ i) → get_or (set ws' i 0) j 0 ≤ 100001
-        small j (yes q) = rw (q, get_or-set_same ws' i 0 0 (omega (arith, v.scratch.size))) (omega arith)
-        small j (no q) = rw (get_or-set_other ws' i j 0 0 q) (v.scratch.small.each j)
-
-        none : (j : ℕ) → j < i + 1 → Dec (j ≡ i) → get_or (set ws' i 0) j 0 ≡ 0
-        none j l (yes q) = rw (q, get_or-set_same ws' i 0 0 (omega (arith, v.scratch.size)))
-        none j l (no q) = get_or-set_other ws' i j 0 0 q ∙ v.none j (omega arith)
-
-    pub clearing_over : 256 ≤ i → Unmounted ws ws'
-    clearing_over h = record { scratch = v.scratch; none = λ j l. v.none j (omega arith); kept = v.kept }
-
-pub ruleset clearing = (clearing_start, clearing_size, clearing_more, clearing_over, rules)
+    small : (i : ℕ) → get_or (xs ++ drop 256 ws) i 0 ≤ 100001
+    small i = on (ltb i 256) (λ a. omega (arith, front i (ltb-true i 256 a), h i (ltb-true i 256 a))) (λ a. omega (arith, kept i (ltb-false i 256 a), s.small.each i))

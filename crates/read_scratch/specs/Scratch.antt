@@ -1,23 +1,21 @@
 -- What the scratch row holds.
-use Rattle.std.specs.Prelude.{ℕ, ◌+◌, ◌*◌, ◌-◌, ◌<◌, ◌≤◌, List, ◌≡◌, ltb, length, take, drop, get_or, if◌then◌else◌}
+use Rattle.std.specs.Prelude.{ℕ, ◌+◌, ◌*◌, ◌<◌, ◌≤◌, List, ◌≡◌, length, take, drop, get_or}
 use Rattle.rules.specs.Widths.{Font, WidthList, unsound, sound}
+use Rattle.widths_table.specs.declared.Block.{Block}
+use Rattle.widths_table.specs.Blocks.{no_block}
 use Rattle.widths_table.specs.Table.{TableOf, NamesOf}
 use Rattle.read_turn.specs.Ready.{Scratch}
 
--- what stands at a place, for so many fonts: the mounts, the table, an empty block, the names' places, their lengths
-abbrev pub scratch_at : List ℕ → List ℕ → List ℕ → ℕ → ℕ → ℕ
-scratch_at table places lens fonts i =
-    if ltb i 256 then 0 else
-    if ltb i (256 + fonts * 256) then get_or table (i - 256) 0 else
-    if ltb i 8704 then 0 else
-    if ltb i (8704 + fonts) then get_or places (i - 8704) 0 else
-    if ltb i 8736 then 0 else
-    if ltb i (8736 + fonts) then get_or lens (i - 8736) 0 else
-    0
-
-pub record Gathered (table places lens : List ℕ) (fonts : ℕ) (ws : List ℕ) : Type 0 where
+-- the row of so many fonts: the mounts, the fonts' widths, an empty block, the names' places, their lengths
+pub record Gathered (table : List Block) (fonts : ℕ) (ws : List ℕ) : Type 0 where
   pub size : length ws ≡ 8768
-  pub each : (i : ℕ) → i < 8768 → get_or ws i 0 ≡ scratch_at table places lens fonts i
+  pub none : (i : ℕ) → i < 256 → get_or ws i 0 ≡ 0
+  pub widths : (i b : ℕ) → i < fonts → b < 256 → get_or ws (256 + (i * 256 + b)) 0 ≡ get_or (get_or table i no_block).widths b 0
+  pub empty : (i : ℕ) → 256 + fonts * 256 ≤ i → i < 8704 → get_or ws i 0 ≡ 0
+  pub places : (i : ℕ) → i < fonts → get_or ws (8704 + i) 0 ≡ (get_or table i no_block).name.place
+  pub no_places : (i : ℕ) → 8704 + fonts ≤ i → i < 8736 → get_or ws i 0 ≡ 0
+  pub lens : (i : ℕ) → i < fonts → get_or ws (8736 + i) 0 ≡ (get_or table i no_block).name.len
+  pub no_lens : (i : ℕ) → 8736 + fonts ≤ i → get_or ws i 0 ≡ 0
 
 -- the scratch row of a list's fonts, with nothing mounted
 pub record ScratchOf (list : List ℕ) (fs : List Font) (ws : List ℕ) : Type 0 where

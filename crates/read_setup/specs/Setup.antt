@@ -1,13 +1,12 @@
 -- What a reading does around its passes: the state in which a pass begins, and the answer. In the code's own steps.
-use Rattle.std.specs.Prelude.{ℕ, ◌<◌, Bool, true, false, ◌||◌, List, [], ◌∷◌, ◌≡◌, ltb, eqb, length, get_or, if◌then◌else◌}
+use Rattle.std.specs.Prelude.{ℕ, ◌<◌, Bool, true, false, ◌||◌, List, [], ◌∷◌, ◌≡◌, ltb, eqb, length, get_or, Result, Ok, Err, if◌then◌else◌}
 use Rattle.rules.specs.declared.Colour.{Colour}
 use Rattle.rules.specs.declared.Reading.{Reading}
-use Rattle.rules.specs.declared.ReadAnswer.TheVariants as R
+use Rattle.rules.specs.declared.Refusal.{Refusal}
 use Rattle.rules.specs.Bytes.{origin}
-use Rattle.rules.specs.State.{no_paint}
 use Rattle.rules.specs.Record.{shown, colour_of}
 use Rattle.rules.specs.Widths.{WidthList, unsound, sound, width_list}
-use Rattle.rules.specs.Answers.{stream_most, is_over}
+use Rattle.rules.specs.Answers.{stream_most, is_over, refusal}
 use Rattle.read_model.specs.declared.Environment.{Environment}
 use Rattle.read_model.specs.declared.State.{State}
 use Rattle.read_model.specs.Environment.{paint_of}
@@ -54,11 +53,19 @@ again_of a n rmax emax fill =
 
 -- ---- the answer
 
-abbrev pub read_answer_of : State → Reading
+abbrev pub read_answer_of : State → Result Reading Refusal
 read_answer_of st =
     if eqb st.refusal 0
-    then record { answer = R.Accepted st.records st.entries st.env.ordinal (shown st.env.h) (shown st.env.v); glyph = colour_of (paint_of st.env.ink); fill = colour_of (paint_of st.env.paint) }
-    else record { answer = R.Refused st.refusal st.at; glyph = colour_of no_paint; fill = colour_of no_paint }
+    then Ok (record {
+      records = st.records;
+      entries = st.entries;
+      pages = st.env.ordinal;
+      h = shown st.env.h;
+      v = shown st.env.v;
+      glyph = colour_of (paint_of st.env.ink);
+      fill = colour_of (paint_of st.env.paint);
+    })
+    else Err (refusal st.refusal st.at)
 
 -- ---- bytes
 

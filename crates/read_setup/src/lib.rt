@@ -10,9 +10,9 @@ ghost use Rattle.read_scratch.specs.Scratch.{Unmounted};
 ghost use Rattle.read_setup.specs.Setup.{no_colour, start_env, begin_of, refused_at, Started, again_of, read_answer_of, AreBytes};
 
 use read_model::{Environment, State};
-use rules::{Colour, ReadAnswer, Reading};
+use rules::{Colour, Reading, Refusal};
 use scan_letters::Parts;
-use widths::ListAnswer;
+use widths::Sound;
 
 // ---- the state in which a pass begins
 
@@ -92,8 +92,8 @@ pub fn start(ws: &mut [u32], s: &[u8], list: &[u8]) -> State
         return refused(1, 0);
     }
     match read_scratch::load(ws, list) {
-        ListAnswer::Unsound { offset } => refused(2, offset),
-        ListAnswer::Sound { unitwidth, fonts } => begin(n, n, n, fonts, unitwidth, 0),
+        Ok(Sound { unitwidth, fonts }) => begin(n, n, n, fonts, unitwidth, 0),
+        Err(r) => refused(r.number, r.offset),
     }
 }
 
@@ -135,44 +135,31 @@ fn colour_out(c: Colour) -> Colour
 {
     let k = scan_letters::byte_of(c.scheme);
     match scan_letters::parts_of(k) {
-        Parts::Zero => c,
-        Parts::One => c,
-        Parts::Three => c,
-        Parts::Four => c,
-        Parts::Unknown => {
-            let mut d = c;
-            d.scheme = 100;
-            d
-        }
+        Parts::Unknown => Colour { scheme: 100, ..c },
+        _ => c,
     }
 }
 
 // The answer where the last pass ended.
-pub fn answer(st: State) -> Reading
+pub fn answer(st: State) -> Result<Reading, Refusal>
     requires { EnvFits st.at st.env }
     ensures { result ≡ read_answer_of st }
 {
     let e = st.env;
     if st.refusal == 0 {
-        Reading {
-            answer: ReadAnswer::Accepted {
-                records: st.records,
-                entries: st.entries,
-                pages: e.ordinal,
-                h: read_environment::shown(e.h),
-                v: read_environment::shown(e.v),
-            },
+        Ok(Reading {
+            records: st.records,
+            entries: st.entries,
+            pages: e.ordinal,
+            h: read_environment::shown(e.h),
+            v: read_environment::shown(e.v),
             glyph: colour_out(e.ink),
             fill: colour_out(e.paint),
-        }
+        })
     } else {
-        Reading {
-            answer: ReadAnswer::Refused {
-                number: st.refusal,
-                offset: st.at,
-            },
-            glyph: no_colour(),
-            fill: no_colour(),
-        }
+        Err(Refusal {
+            number: st.refusal,
+            offset: st.at,
+        })
     }
 }

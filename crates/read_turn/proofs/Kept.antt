@@ -1,17 +1,19 @@
 -- What a turn keeps, and that what it gives lies within the rows.
-use Rattle.std.specs.Prelude.{if◌then◌else◌}
+use Rattle.std.specs.Prelude.{Option, Some, None, IsSome, Result, Ok, Err, if◌then◌else◌}
 use Prim.Native.Nat.{ℕ, zero, suc, ◌+◌, ◌*◌, ◌-◌, ◌<◌, ◌≤◌}
 use native.Mathlib.Omega.{arith}
 use native.Mathlib.Decide.{ℕ_discrete}
-use mathlib.Core.Bool.{Bool, true, false, ◌&&◌}
+use mathlib.Core.Bool.{Bool, true, false}
 use mathlib.Core.List.{List, [], ◌∷◌}
-use mathlib.Core.Path.{◌≡◌, refl, sym, ◌∙◌}
+use mathlib.Core.Path.{◌≡◌, refl, ◌∙◌}
 use lib.Dec.{ltb, eqb}
 use lib.ListN.{length, take, drop, set, get_or, length-set}
 use lib.Seq.{get_or-set_same, get_or-set_other}
-use borrow.Author.Tests.{ltb-true, ltb-false, eqb-true}
+use borrow.Author.Tests.{ltb-true, ltb-false}
+use Rattle.rules.specs.declared.Refusal.{Refusal}
+use Rattle.rules.specs.Answers.{refusal, and_then}
 use Rattle.rules.specs.Bytes.{origin, is, is_white, one_line}
-use Rattle.laws.proofs.Cases.{on, no as impossible, if_both, if_on, not_zero}
+use Rattle.laws.proofs.Cases.{on, if_both, if_on}
 use Rattle.laws_scan.proofs.Walk.{comment_in}
 use Rattle.scan_command.specs.declared.Command.{Command}
 use Rattle.scan_command.specs.declared.Command.TheVariants as C
@@ -25,17 +27,17 @@ use Rattle.read_model.specs.declared.State.{State}
 use Rattle.read_model.specs.declared.Effect.{Effect}
 use Rattle.read_model.specs.declared.Effect.TheVariants as F
 use Rattle.read_model.specs.declared.Turned.{Turned}
-use Rattle.read_model.specs.Environment.{refusing, on_page, in_body, is_set, may_move, may_go, index_on, to_on, by_on, control_here}
-use Rattle.read_model.specs.Words.{all_wide, word_here, word_end, word_on}
-use Rattle.read_model.specs.Fits.{EnvFits, CommandIn, is_refused}
-use Rattle.read_model.specs.Turns.{mount_at, block_now, did_at, next_of, scratch_after, halted_at, halted, gone_to, filling, fills_records, fills_entries, emitted, point_of, skipped, turn_on, turn_of, scratch_of}
-use Rattle.read_model.proofs.Fits.{command-fits, did_fits, later}
+use Rattle.read_model.specs.Environment.{with_spot, doing, on_page, in_body, is_set, gone, placed_or, drawing_here, control_here, record_on, along, with_along}
+use Rattle.read_model.specs.Words.{all_wide, word_here, word_end, word_to, word_on}
+use Rattle.read_model.specs.Fits.{EnvFits, Ends, CommandIn, ScannedIn}
+use Rattle.read_model.specs.Turns.{mount_at, block_now, did_at, next_of, scratch_after, scratch_on, halted_at, halted, halted_by, gone_to, filling, fills_records, fills_entries, emitted, done_of, skipped, turn_on, turn_of, scratch_of}
+use Rattle.read_model.proofs.Fits.{command-fits, Kept, did_fits, later}
 use Rattle.read_environment.specs.Bounds.{Fits}
 use Rattle.read_word.specs.Bounds.{Small, WordFits}
 use Rattle.read_word.proofs.Spelling.{here_fits}
-use Rattle.read_next.proofs.Places.{next_least, next-most}
+use Rattle.read_next.proofs.Places.{ends_in}
 use Rattle.read_turn.specs.Ready.{find_in, Scratch, Ready}
-use Rattle.read_mount.proofs.Mounts.{found-most}
+use Rattle.read_mount.proofs.Mounts.{found_most}
 
 -- ---- what a command gives to the rows is within the bounds that filling asks
 
@@ -44,61 +46,64 @@ module _ (s ws : List ℕ) where
   GivenIn E.Nothing = Unit {0}
   GivenIn (E.Record r) = Unit {0}
   GivenIn (E.Entry x) = Unit {0}
-  GivenIn (E.Word d) = WordFits d × (0 < word_end d.left s ws d)
+  GivenIn (E.Word d) = WordFits d × IsSome (word_end d.left s ws d)
 
-  abbrev Gives : Did → Type 0
-  Gives d = GivenIn d.emitted
+  module _ (at : ℕ) where
+    -- and a refusal points at the command
+    abbrev Gives : Result Did Refusal → Type 0
+    Gives (Ok d) = GivenIn d.emitted
+    Gives (Err r) = r.offset ≡ at
 
-  module _ (e : Environment) where
-    -- refused where b is false
-    or_gives : (b : Bool) (x : Did) (k : ℕ) → Gives x → Gives (if b then x else refusing e k)
-    or_gives true x k g = g
-    or_gives false x k g = tt
+    -- behind a test that may refuse
+    or_gives : {A : Type 0} (b : Bool) (a : A) (n : ℕ) (g : A → Result Did Refusal) → Gives (g a) → Gives (and_then (if b then Ok a else Err (refusal n at)) g)
+    or_gives true a n g k = k
+    or_gives false a n g k = refl
 
-    index_gives : (k : ℕ) → Gives (index_on e k)
-    index_gives k = or_gives (is_set e) _ 8 (if_both Gives (ltb k origin) _ _ tt tt)
+    -- behind a place that may lie beyond the limit
+    placed_gives : (o : Option ℕ) (g : ℕ → Result Did Refusal) → ((x : ℕ) → Gives (g x)) → Gives (and_then (placed_or o at) g)
+    placed_gives (Some x) g k = k x
+    placed_gives None g k = refl
 
-    to_gives : (x k : ℕ) → Gives (to_on e x k)
-    to_gives zero k = tt
-    to_gives (suc x) k = tt
-
-    by_gives : (x k : ℕ) → Gives (by_on e x k)
-    by_gives zero k = or_gives (may_move e.h k) _ 10 tt
-    by_gives (suc x) k = or_gives (may_move e.v k) _ 10 tt
-
-    module _ (u : ℕ) (f : Fits e) (a : 1 ≤ u) (b : u ≤ 100000) (m : Small ws) where
-      word_gives : (t p k : ℕ) → t < 2 * origin → p + k ≤ 16777216 → Gives (word_on s ws e u t k p (block_now ws e))
+    module _ (e : Environment) (u : ℕ) (f : Fits e) (a : 1 ≤ u) (b : u ≤ 100000) (m : Small ws) where
+      word_gives : (t p k : ℕ) → t < 2 * origin → p + k ≤ 16777216 → Gives (word_on s ws e at u t k p (block_now ws e))
       word_gives t p k h l =
-          let d : Word = word_here e u t k p (block_now ws e) in
-          or_gives (is_set e) _ 8 (or_gives (all_wide k s ws (block_now ws e) p) _ 9
-          (if_on Gives (eqb (word_end k s ws d) 0) (refusing e 10) _ (λ z. tt)
-          (λ z. (here_fits e u t k p (block_now ws e) f a b h l (m.each (e.font - 1)), not_zero (word_end k s ws d) z))))
+          or_gives (is_set e) tt 8 _ (or_gives (all_wide k s ws (block_now ws e) p) tt 9 _ (go (word_end k s ws d) refl))
+        where
+          d : Word
+          d = word_here e u t k p (block_now ws e)
 
-      pub did_gives : (at n : ℕ) (c : Command) → n ≤ 16777216 → CommandIn at n c → Gives (did_at s ws u e at c)
-      did_gives at n (C.Glyph p l q) z i = or_gives (on_page e) _ 7 (or_gives (is_set e) _ 8 tt)
-      did_gives at n (C.Index k q) z i = or_gives (on_page e) _ 7 (index_gives k)
-      did_gives at n (C.Word t p x q) z i = or_gives (on_page e) _ 7 (word_gives t p (x - p) i.1 (omega (arith, i.0, i.3, i.4)))
-      did_gives at n (C.Pair k p q) z i = or_gives (on_page e) _ 7 (or_gives (is_set e) _ 8 (or_gives (may_move e.h k) _ 10 tt))
-      did_gives at n (C.To x k q) z i = or_gives (on_page e) _ 7 (to_gives x k)
-      did_gives at n (C.By x k q) z i = or_gives (on_page e) _ 7 (by_gives x k)
-      did_gives at n (C.Page k q) z i = or_gives (in_body e) _ 7 tt
-      did_gives at n (C.Font k q) z i = or_gives (in_body e) _ 7 (if_both Gives (eqb (mount_at ws k) 0) _ _ tt tt)
-      did_gives at n (C.Size k q) z i = or_gives (in_body e) _ 7 tt
-      did_gives at n (C.Colour x p q r k l) z i = or_gives (in_body e) _ 7 tt
-      did_gives at n (C.Break q) z i = or_gives (in_body e) _ 7 tt
-      did_gives at n (C.Space q) z i = or_gives (in_body e) _ 7 tt
-      did_gives at n (C.Draw l x y k q) z i = or_gives (on_page e) _ 7 (or_gives (may_go k e.h x && may_go k e.v y) _ 10 tt)
-      did_gives at n (C.Gray k q) z i = or_gives (on_page e) _ 7 tt
-      did_gives at n (C.Fill x p q r k l) z i = or_gives (on_page e) _ 7 tt
-      did_gives at n (C.Device p l q) z i = or_gives (eqb e.phase 0) _ 7 tt
-      did_gives at n (C.Resolution k q) z i = or_gives (eqb e.phase 1) _ 7 tt
-      did_gives at n (C.Init q) z i = or_gives (eqb e.phase 2) _ 7 tt
-      did_gives at n (C.File p l q) z i = or_gives (in_body e) _ 7 tt
-      did_gives at n (C.Mount k p l q) z i = or_gives (in_body e) _ 7 tt
-      did_gives at n (C.Plain l q) z i = or_gives (in_body e) _ 7 tt
-      did_gives at n (C.Raw q) z i = or_gives (in_body e) _ 7 tt
-      did_gives at n (C.Stop q) z i = or_gives (in_body e) _ 7 tt
-      did_gives at n (C.Refused k p) z i = tt
+          go : (o : Option ℕ) → word_end k s ws d ≡ o → Gives (word_to e at d o)
+          go None q = refl
+          go (Some x) q = (here_fits e u t k p (block_now ws e) f a b h l (m.each (e.font - 1)), rw q refl)
+
+      pub did_gives : (n : ℕ) (c : Command) → n ≤ 16777216 → CommandIn at n c → Gives (did_at s ws u e at c)
+      did_gives n (C.Glyph p l q) z i = or_gives (on_page e) tt 7 _ (or_gives (is_set e) tt 8 _ tt)
+      did_gives n (C.Index k q) z i = or_gives (on_page e) tt 7 _ (or_gives (is_set e) tt 8 _ (if_both Gives (ltb k origin) _ _ tt tt))
+      did_gives n (C.Word t p x q) z i = or_gives (on_page e) tt 7 _ (word_gives t p (x - p) i.1 (omega (arith, i.0, i.3, i.4)))
+      did_gives n (C.Pair k p q) z i = or_gives (on_page e) tt 7 _ (or_gives (is_set e) tt 8 _ (placed_gives (gone origin (e.h + k)) (λ h. record_on (with_spot e h e.v) p 1 0) (λ h. tt)))
+      did_gives n (C.To x k q) z i = or_gives (on_page e) tt 7 _ tt
+      did_gives n (C.By x k q) z i = or_gives (on_page e) tt 7 _ (placed_gives (gone origin (along e x + k)) (λ j. doing (with_along e x j) E.Nothing) (λ j. tt))
+      did_gives n (C.Page k q) z i = or_gives (in_body e) tt 7 _ tt
+      did_gives n (C.Font k q) z i = or_gives (in_body e) tt 7 _ (or_gives (ltb 0 (mount_at ws k)) tt 8 _ tt)
+      did_gives n (C.Size k q) z i = or_gives (in_body e) tt 7 _ tt
+      did_gives n (C.Colour x p q r k l) z i = or_gives (in_body e) tt 7 _ tt
+      did_gives n (C.Break q) z i = or_gives (in_body e) tt 7 _ tt
+      did_gives n (C.Space q) z i = or_gives (in_body e) tt 7 _ tt
+      did_gives n (C.Draw l x y k q) z i =
+          let moved : ℕ → ℕ → Result Did Refusal = λ h v. doing (with_spot e h v) (E.Entry (drawing_here e l 0 at q)) in
+          or_gives (on_page e) tt 7 _
+          (placed_gives (gone (k * origin) (e.h + x)) (λ h. and_then (placed_or (gone (k * origin) (e.v + y)) at) (moved h))
+          (λ h. placed_gives (gone (k * origin) (e.v + y)) (moved h) (λ v. tt)))
+      did_gives n (C.Gray k q) z i = or_gives (on_page e) tt 7 _ tt
+      did_gives n (C.Fill x p q r k l) z i = or_gives (on_page e) tt 7 _ tt
+      did_gives n (C.Device p l q) z i = or_gives (eqb e.phase 0) tt 7 _ tt
+      did_gives n (C.Resolution k q) z i = or_gives (eqb e.phase 1) tt 7 _ tt
+      did_gives n (C.Init q) z i = or_gives (eqb e.phase 2) tt 7 _ tt
+      did_gives n (C.File p l q) z i = or_gives (in_body e) tt 7 _ tt
+      did_gives n (C.Mount k p l q) z i = or_gives (in_body e) tt 7 _ tt
+      did_gives n (C.Plain l q) z i = or_gives (in_body e) tt 7 _ tt
+      did_gives n (C.Raw q) z i = or_gives (in_body e) tt 7 _ tt
+      did_gives n (C.Stop q) z i = or_gives (in_body e) tt 7 _ tt
 
 -- ---- a turn
 
@@ -107,7 +112,7 @@ abbrev pub InRows : List ℕ → List ℕ → State → Effect → Type 0
 InRows s ws st F.Nothing = Unit {0}
 InRows s ws st (F.Record i r) = (fills_records st.fill ≡ true) × (i < st.rmax)
 InRows s ws st (F.Entry i x) = (fills_entries st.fill ≡ true) × (i < st.emax)
-InRows s ws st (F.Word k d) = (fills_records st.fill ≡ true) × WordFits d × (0 < word_end d.left s ws d) × (k + d.left ≤ st.rmax)
+InRows s ws st (F.Word k d) = (fills_records st.fill ≡ true) × WordFits d × IsSome (word_end d.left s ws d) × (k + d.left ≤ st.rmax)
 
 pub record Well (s ws : List ℕ) (st : State) (t : Turned) : Type 0 where
   pub less : t.state.left < st.left
@@ -166,82 +171,22 @@ module _ (s ws : List ℕ) (st : State) (r : Ready (length s) st) where
   skipped_well : (next : ℕ) → st.at < next → next ≤ length s → Well s ws st (skipped (length s) st next)
   skipped_well next l h = gone_well next l h st.env (later st.at next st.env (omega arith) r.fits) F.Nothing st.records st.entries r.records r.entries tt
 
-  -- a command that is no refusal ends behind its place
-  ends_behind : (at n : ℕ) (c : Command) → CommandIn at n c → is_refused c ≡ false → at < next_of c
-  ends_behind at n (C.Glyph p l q) i z = i.0.0
-  ends_behind at n (C.Index k q) i z = i.0.0
-  ends_behind at n (C.Word t p x q) i z = i.0.0
-  ends_behind at n (C.Pair k p q) i z = i.0.0
-  ends_behind at n (C.To x k q) i z = i.0.0
-  ends_behind at n (C.By x k q) i z = i.0.0
-  ends_behind at n (C.Page k q) i z = i.0.0
-  ends_behind at n (C.Font k q) i z = i.0.0
-  ends_behind at n (C.Size k q) i z = i.0.0
-  ends_behind at n (C.Colour x a b k d q) i z = i.0
-  ends_behind at n (C.Break q) i z = i.0
-  ends_behind at n (C.Space q) i z = i.0
-  ends_behind at n (C.Draw b x y k q) i z = i.0.0
-  ends_behind at n (C.Gray k q) i z = i.0.0
-  ends_behind at n (C.Fill x a b k d q) i z = i.0
-  ends_behind at n (C.Device p l q) i z = i.0
-  ends_behind at n (C.Resolution k q) i z = i.0.0
-  ends_behind at n (C.Init q) i z = i.0
-  ends_behind at n (C.File p l q) i z = i.0
-  ends_behind at n (C.Mount k p l q) i z = i.0.0
-  ends_behind at n (C.Plain b q) i z = i.0
-  ends_behind at n (C.Raw q) i z = i.0
-  ends_behind at n (C.Stop q) i z = i.0
-  ends_behind at n (C.Refused k p) i z = impossible (sym z)
-
-  -- nor does the refusal of one point before it
-  points-behind : (c : Command) (k : ℕ) → CommandIn st.at (length s) c → st.at ≤ point_of st.at (next_of c) k
-  points-behind c k i = if_both (λ (p : ℕ). st.at ≤ p) (eqb k 6) (next_of c) st.at (next_least st.at (length s) c i) (omega arith)
-
--- a refused command is refused
-went_on : (s ws : List ℕ) (u : ℕ) (e : Environment) (at n : ℕ) (c : Command) → CommandIn at n c → (did_at s ws u e at c).refusal ≡ 0 → is_refused c ≡ false
-went_on s ws u e at n (C.Glyph p l q) i z = refl
-went_on s ws u e at n (C.Index k q) i z = refl
-went_on s ws u e at n (C.Word t p x q) i z = refl
-went_on s ws u e at n (C.Pair k p q) i z = refl
-went_on s ws u e at n (C.To x k q) i z = refl
-went_on s ws u e at n (C.By x k q) i z = refl
-went_on s ws u e at n (C.Page k q) i z = refl
-went_on s ws u e at n (C.Font k q) i z = refl
-went_on s ws u e at n (C.Size k q) i z = refl
-went_on s ws u e at n (C.Colour x a b k d q) i z = refl
-went_on s ws u e at n (C.Break q) i z = refl
-went_on s ws u e at n (C.Space q) i z = refl
-went_on s ws u e at n (C.Draw b x y k q) i z = refl
-went_on s ws u e at n (C.Gray k q) i z = refl
-went_on s ws u e at n (C.Fill x a b k d q) i z = refl
-went_on s ws u e at n (C.Device p l q) i z = refl
-went_on s ws u e at n (C.Resolution k q) i z = refl
-went_on s ws u e at n (C.Init q) i z = refl
-went_on s ws u e at n (C.File p l q) i z = refl
-went_on s ws u e at n (C.Mount k p l q) i z = refl
-went_on s ws u e at n (C.Plain b q) i z = refl
-went_on s ws u e at n (C.Raw q) i z = refl
-went_on s ws u e at n (C.Stop q) i z = refl
-went_on s ws u e at n (C.Refused k p) i z = absurd (some (eqb e.phase 4) i.0 z)
-  where
-    some : (b : Bool) → 0 < k → (if b then 7 else k) ≡ 0 → ⊥
-    some true h y = omega arith
-    some false h y = omega arith
+  -- behind what a command did, at next
+  done_well : (next : ℕ) → Ends st.at (length s) next → (d : Result Did Refusal) → Kept next d → Gives s ws st.at d → Well s ws st (done_of (length s) st next d)
+  done_well next z (Ok d) k g = emitted_well next z.0 z.1 d.env k d.emitted g
+  done_well next z (Err x) k g = halted_well x.offset x.number (omega (arith, g))
 
 module _ (s ws : List ℕ) (st : State) (r : Ready (length s) st) (m : Small ws) where
   in_stream : Fits st.env
   in_stream = later st.at 16777216 st.env (omega (arith, r.ends, r.most)) r.fits
 
-  command_well : (c : Command) → CommandIn st.at (length s) c → Well s ws st (turn_on s ws st c)
-  command_well c i =
-      let d : Did = did_at s ws st.unitwidth st.env st.at c in
-      if_on (Well s ws st) (eqb d.refusal 0) (emitted (length s) st (next_of c) d.env d.emitted) (halted_at (point_of st.at (next_of c) d.refusal) st d.refusal)
-      (λ z.
-      let g : is_refused c ≡ false = went_on s ws st.unitwidth st.env st.at (length s) c i (eqb-true d.refusal 0 z) in
-      emitted_well s ws st r (next_of c) (ends_behind s ws st r st.at (length s) c i g) (next-most st.at (length s) (next_of c) c i refl) d.env
-      (did_fits s ws st.unitwidth st.at (length s) st.env r.fits c i g) d.emitted
-      (did_gives s ws st.env st.unitwidth in_stream r.unit_some r.unit_most m st.at (length s) c r.most i))
-      (λ z. halted_well s ws st r (point_of st.at (next_of c) d.refusal) d.refusal (points-behind s ws st r c d.refusal i))
+  scanned_well : (c : Result Command Refusal) → ScannedIn st.at (length s) c → Well s ws st (turn_on s ws st c)
+  scanned_well (Ok c) i =
+      done_well s ws st r (next_of c) (ends_in st.at (length s) c i) (did_at s ws st.unitwidth st.env st.at c)
+      (did_fits s ws st.unitwidth st.at (length s) st.env r.fits c i)
+      (did_gives s ws st.at st.env st.unitwidth in_stream r.unit_some r.unit_most m (length s) c r.most i)
+  scanned_well (Err x) i =
+      if_both (λ (y : Refusal). Well s ws st (halted_by st y)) (eqb st.env.phase 4) (refusal 7 st.at) x (halted_well s ws st r st.at 7 (omega arith)) (halted_well s ws st r x.offset x.number i.1)
 
   pub turn_well : Well s ws st (turn_of s ws st)
   unfolding turn_of
@@ -253,7 +198,7 @@ module _ (s ws : List ℕ) (st : State) (r : Ready (length s) st) (m : Small ws)
       (skipped_well s ws st r (st.at + 1) (omega arith) (omega arith))
       (if_both (Well s ws st) (is "#" (get_or s st.at 0)) line rest
       (skipped_well s ws st r (st.at + 1 + one_line (drop (st.at + 1) s)) (omega arith) (comment_in s st.at h))
-      (command_well (command_at s st.at) (command-fits s st.at h)))
+      (scanned_well (command_at s st.at) (command-fits s st.at h)))
 
 -- ---- the scratch row behind a turn
 
@@ -283,41 +228,23 @@ module _ (list s : List ℕ) (fonts : ℕ) (few : fonts ≤ 32) (ws : List ℕ) 
       small j (no e) = rw (get_or-set_other ws i j x 0 e) (g.small.each j)
 
   after_scratch : (e : Environment) (at n : ℕ) (c : Command) → CommandIn at n c → Remounted ws (scratch_after (find_in list fonts ws) s ws e c)
-  after_scratch e at n (C.Glyph p l q) i = same_scratch
-  after_scratch e at n (C.Index k q) i = same_scratch
-  after_scratch e at n (C.Word t p x q) i = same_scratch
-  after_scratch e at n (C.Pair k p q) i = same_scratch
-  after_scratch e at n (C.To x k q) i = same_scratch
-  after_scratch e at n (C.By x k q) i = same_scratch
-  after_scratch e at n (C.Page k q) i = same_scratch
-  after_scratch e at n (C.Font k q) i = same_scratch
-  after_scratch e at n (C.Size k q) i = same_scratch
-  after_scratch e at n (C.Colour x a b k d q) i = same_scratch
-  after_scratch e at n (C.Break q) i = same_scratch
-  after_scratch e at n (C.Space q) i = same_scratch
-  after_scratch e at n (C.Draw b x y k q) i = same_scratch
-  after_scratch e at n (C.Gray k q) i = same_scratch
-  after_scratch e at n (C.Fill x a b k d q) i = same_scratch
-  after_scratch e at n (C.Device p l q) i = same_scratch
-  after_scratch e at n (C.Resolution k q) i = same_scratch
-  after_scratch e at n (C.Init q) i = same_scratch
-  after_scratch e at n (C.File p l q) i = same_scratch
   after_scratch e at n (C.Mount k p l q) i =
       if_both (Remounted ws) (in_body e) _ ws
-      (set_scratch k (find_in list fonts ws (take l (drop p s)) + 1) i.1 (omega (arith, found-most list ws (take l (drop p s)) fonts (find_in list fonts ws (take l (drop p s))) few refl))) same_scratch
-  after_scratch e at n (C.Plain b q) i = same_scratch
-  after_scratch e at n (C.Raw q) i = same_scratch
-  after_scratch e at n (C.Stop q) i = same_scratch
-  after_scratch e at n (C.Refused k p) i = same_scratch
+      (set_scratch k (find_in list fonts ws (take l (drop p s)) + 1) i.1 (omega (arith, found_most list ws (take l (drop p s)) fonts (find_in list fonts ws (take l (drop p s))) refl few))) same_scratch
+  after_scratch e at n c i = same_scratch
+
+  scanned_scratch : (e : Environment) (at n : ℕ) (c : Result Command Refusal) → ScannedIn at n c → Remounted ws (scratch_on (find_in list fonts ws) s ws e c)
+  scanned_scratch e at n (Ok c) i = after_scratch e at n c i
+  scanned_scratch e at n (Err x) i = same_scratch
 
   pub turn_scratch : (st : State) → Ready (length s) st → Remounted ws (scratch_of (find_in list fonts ws) s ws st)
   unfolding scratch_of
   turn_scratch st r =
       let h : st.at < length s = omega (arith, r.ends, r.some) in
-      let rest : List ℕ = scratch_after (find_in list fonts ws) s ws st.env (command_at s st.at) in
+      let rest : List ℕ = scratch_on (find_in list fonts ws) s ws st.env (command_at s st.at) in
       if_both (Remounted ws) (is_white (get_or s st.at 0)) ws (if is "#" (get_or s st.at 0) then ws else rest) same_scratch
       (if_both (Remounted ws) (is "#" (get_or s st.at 0)) ws rest same_scratch
-      (after_scratch st.env st.at (length s) (command_at s st.at) (command-fits s st.at h)))
+      (scanned_scratch st.env st.at (length s) (command_at s st.at) (command-fits s st.at h)))
 
 -- ---- a word leaves the scratch row
 
@@ -334,27 +261,8 @@ module _ (find : List ℕ → ℕ) (s ws : List ℕ) (st : State) where
   kept_by (F.Entry i x) = tt
   kept_by (F.Word k d) = refl
 
-  command_keeps : (c : Command) → WordKeeps ws (turn_on s ws st c).effect (scratch_after find s ws st.env c)
-  command_keeps (C.Glyph p l q) = kept_by (turn_on s ws st (C.Glyph p l q)).effect
-  command_keeps (C.Index k q) = kept_by (turn_on s ws st (C.Index k q)).effect
-  command_keeps (C.Word t p x q) = kept_by (turn_on s ws st (C.Word t p x q)).effect
-  command_keeps (C.Pair k p q) = kept_by (turn_on s ws st (C.Pair k p q)).effect
-  command_keeps (C.To x k q) = kept_by (turn_on s ws st (C.To x k q)).effect
-  command_keeps (C.By x k q) = kept_by (turn_on s ws st (C.By x k q)).effect
-  command_keeps (C.Page k q) = kept_by (turn_on s ws st (C.Page k q)).effect
-  command_keeps (C.Font k q) = kept_by (turn_on s ws st (C.Font k q)).effect
-  command_keeps (C.Size k q) = kept_by (turn_on s ws st (C.Size k q)).effect
-  command_keeps (C.Colour x a b k d q) = kept_by (turn_on s ws st (C.Colour x a b k d q)).effect
-  command_keeps (C.Break q) = kept_by (turn_on s ws st (C.Break q)).effect
-  command_keeps (C.Space q) = kept_by (turn_on s ws st (C.Space q)).effect
-  command_keeps (C.Draw b x y k q) = kept_by (turn_on s ws st (C.Draw b x y k q)).effect
-  command_keeps (C.Gray k q) = kept_by (turn_on s ws st (C.Gray k q)).effect
-  command_keeps (C.Fill x a b k d q) = kept_by (turn_on s ws st (C.Fill x a b k d q)).effect
-  command_keeps (C.Device p l q) = kept_by (turn_on s ws st (C.Device p l q)).effect
-  command_keeps (C.Resolution k q) = kept_by (turn_on s ws st (C.Resolution k q)).effect
-  command_keeps (C.Init q) = kept_by (turn_on s ws st (C.Init q)).effect
-  command_keeps (C.File p l q) = kept_by (turn_on s ws st (C.File p l q)).effect
-  command_keeps (C.Mount k p l q) =
+  command_keeps : (c : Result Command Refusal) → WordKeeps ws (turn_on s ws st c).effect (scratch_on find s ws st.env c)
+  command_keeps (Ok (C.Mount k p l q)) =
       on (in_body st.env)
       (λ z. rw z (if_both (λ (t : Turned). WordKeeps ws t.effect (set ws k (find (take l (drop p s)) + 1))) (ltb st.entries st.emax) _ (halted st 13) (entry (fills_entries st.fill)) tt))
       (λ z. rw z tt)
@@ -362,10 +270,8 @@ module _ (find : List ℕ → ℕ) (s ws : List ℕ) (st : State) where
       entry : (b : Bool) → WordKeeps ws (filling b (F.Entry st.entries (control_here st.env 102 st.at q))) (set ws k (find (take l (drop p s)) + 1))
       entry true = tt
       entry false = tt
-  command_keeps (C.Plain b q) = kept_by (turn_on s ws st (C.Plain b q)).effect
-  command_keeps (C.Raw q) = kept_by (turn_on s ws st (C.Raw q)).effect
-  command_keeps (C.Stop q) = kept_by (turn_on s ws st (C.Stop q)).effect
-  command_keeps (C.Refused k p) = kept_by (turn_on s ws st (C.Refused k p)).effect
+  command_keeps (Ok c) = kept_by (turn_on s ws st (Ok c)).effect
+  command_keeps (Err x) = tt
 
   pub word_keeps : WordKeeps ws (turn_of s ws st).effect (scratch_of find s ws st)
   unfolding turn_of scratch_of

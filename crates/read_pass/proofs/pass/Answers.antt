@@ -7,15 +7,15 @@ use Rattle.read_pass.proofs.pass.Goals.{in-Nothing, in-Record, in-Entry, in-Word
 pub loop-st-init : goal.loop-st-init
 loop-st-init c = record { stream = ap (λ b. b.now) c.new-reader.ensures.0; known = (c.args.from.left, first_known _ _ _ c.requires) }
 
-pub put_record-requires : goal.put_record-requires
-put_record-requires c =
+pub put-requires : goal.put-requires
+put-requires c =
     let kn = c.loop-st.invariant.known.1 in
     let t = rw c.loop-st.invariant.stream at c.turn-x.ensures in
     let i = rw c.in-Record.is at (in_rows _ _ _ _ _ kn c.loop-st-test.true _ _ t.0 t.1) in
     omega (arith, i.1, kn.rmax i.0, kn.records_same)
 
-pub put_entry-requires : goal.put_entry-requires
-put_entry-requires c =
+pub put-requires-in-Entry : goal.put-requires-in-Entry
+put-requires-in-Entry c =
     let kn = c.loop-st.invariant.known.1 in
     let t = rw c.loop-st.invariant.stream at c.turn-x.ensures in
     let i = rw c.in-Entry.is at (in_rows _ _ _ _ _ kn c.loop-st-test.true _ _ t.0 t.1) in
@@ -41,7 +41,7 @@ loop-st-preserved c =
     let keep = words_keep _ _ _ _ _ kn c.loop-st-test.true _ _ t.0 t.1 in
     let a : c.match-effect.records ≡ records_after c.args.s.now c.loop-st.ws c.loop-st.records c.turn-x.result.effect = elim c.match-effect.branch [
       | in-Nothing w ↦ rw w.in-Nothing.is w.records-is
-      | in-Record w ↦ rw w.in-Record.is (w.records-is ∙ w.put_record.ensures)
+      | in-Record w ↦ rw w.in-Record.is (w.records-is ∙ w.put.ensures)
       | in-Entry w ↦ rw w.in-Entry.is w.records-is
       | in-Word w ↦
           let same = rw w.in-Word.is at keep in
@@ -50,7 +50,7 @@ loop-st-preserved c =
     let b : c.match-effect.entries ≡ entries_after c.loop-st.entries c.turn-x.result.effect = elim c.match-effect.branch [
       | in-Nothing w ↦ rw w.in-Nothing.is w.entries-is
       | in-Record w ↦ rw w.in-Record.is w.entries-is
-      | in-Entry w ↦ rw w.in-Entry.is (w.entries-is ∙ w.put_entry.ensures)
+      | in-Entry w ↦ rw w.in-Entry.is (w.entries-is ∙ w.put-in-Entry.ensures)
       | in-Word w ↦ rw w.in-Word.is w.entries-is
     ] in
     record { stream = c.loop-st.invariant.stream; known = next_known _ _ _ _ _ kn c.loop-st-test.true _ _ t.0 t.1 _ _ a b }

@@ -1,8 +1,8 @@
-use Rattle.read_scratch.proofs.Gathering.{loading}
+use Rattle.read_scratch.proofs.Gathering.{sound_holds}
 use Rattle.read_scratch.proofs.load.Goals as goal
 
-pub gather-requires : goal.gather-requires
-gather-requires c = search loading
-
-pub returns-in-Sound : goal.returns-in-Sound
-returns-in-Sound c = search loading
+pub returns : goal.returns
+returns c = (
+  c.in_ok-sound.ensures.0,
+  sound_holds c.args.list.now c.in_ok-sound.sound c.in_ok-sound.ensures.0 c.load.new.table c.gather.new.ws c.requires.0 c.in_ok-sound.ensures.1 c.gather.ensures,
+)

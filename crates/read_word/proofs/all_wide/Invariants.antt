@@ -1,8 +1,7 @@
-use Rattle.read_word.proofs.Spelling.{Wide}
+use Rattle.std.proofs.Common.{◌≡◌, ◌+◌, ◌-◌}
+use Rattle.read_model.specs.Words.{all_wide}
 use Rattle.read_word.proofs.all_wide.Given as goal
 
-abbrev pub invariant-loop-k : goal.invariant-loop-k
-invariant-loop-k l = Wide l.s l.ws l.block l.n l.at l.k l.i
-
-abbrev pub decreases-loop-k : goal.decreases-loop-k
-decreases-loop-k l = l.k
+-- what is still to be looked at
+abbrev pub invariant-loop-i : goal.invariant-loop-i
+invariant-loop-i l = all_wide l.fn.n l.s l.ws l.block l.fn.at ≡ all_wide (l.fn.at + l.fn.n - l.i) l.s l.ws l.block l.i
