@@ -4,6 +4,7 @@
 ghost use Rattle.std.specs.Prelude.{◌≡◌, ◌<◌, ◌≤◌, length};
 ghost use Rattle.find_compare.specs.Compare.{next_record, next_glyph, page_of, fits_at, passed, hit_at, fitted, feed_of, SearchGood};
 
+use find_match::{Key, Question};
 use rules::Record;
 
 // Where the search stands. `left` is 0 once it is done; the record that is asked, how many glyphs of the query were found at it, and
@@ -20,114 +21,113 @@ pub struct Progress {
     pub page: u32,
 }
 
-// What a turn gives to the row of hits: the record's number at a place, or nothing.
-#[derive(Clone, Copy)]
-pub enum FindAct {
-    Hit(usize, u32),
-    Pass,
-}
-
+// What a turn gives to the row of hits, the number of a record or nothing, and where the search stands behind it.
 #[derive(Clone, Copy)]
 pub struct Fed {
-    pub act: FindAct,
+    pub hit: Option<u32>,
     pub state: Progress,
 }
 
-fn next_record(st: Progress, hits: usize) -> Progress
-    requires { (st.at < st.records) × (st.records ≤ 16777216) }
-    ensures { result ≡ next_record st hits }
-{
-    let i = st.at + 1;
-    let mut d = st;
-    d.left = (st.records - i) * 64;
-    d.at = i;
-    d.glyph = 0;
-    d.hits = hits;
-    d
-}
-
-fn next_glyph(st: Progress, page: u32) -> Progress
-    requires { (st.at < st.records) × (st.records ≤ 16777216) × (st.glyph < 64) }
-    ensures { result ≡ next_glyph st page }
-{
-    let k = st.glyph + 1;
-    let all = (st.records - st.at) * 64;
-    let mut d = st;
-    d.left = all - k;
-    d.glyph = k;
-    d.page = page;
-    d
-}
-
-fn passed(st: Progress) -> Fed
-    requires { (st.at < st.records) × (st.records ≤ 16777216) }
-    ensures { result ≡ passed st }
-{
-    Fed {
-        act: FindAct::Pass,
-        state: next_record(st, st.hits),
-    }
-}
-
-// A hit at the record. The row has room for every hit, since they were counted before; that is not known here, so it is tested.
-fn hit(st: Progress) -> Fed
-    requires { (st.at < st.records) × (st.records ≤ 16777216) }
-    ensures { result ≡ hit_at st }
-{
-    if st.hits < st.hmax {
-        let k = st.hits;
-        Fed {
-            act: FindAct::Hit(k, st.at as u32),
-            state: next_record(st, k + 1),
+impl Progress {
+    fn next_record(self, hits: usize) -> Progress
+        requires { (self.at < self.records) × (self.records ≤ 16777216) }
+        ensures { result ≡ next_record self hits }
+    {
+        let at = self.at + 1;
+        Progress {
+            left: (self.records - at) * 64,
+            at,
+            glyph: 0,
+            hits,
+            ..self
         }
-    } else {
-        passed(st)
     }
-}
 
-// Behind a glyph that fits: the last one, another one, or the records end.
-fn fitted(st: Progress, page: u32) -> Fed
-    requires { SearchGood st }
-    ensures { result ≡ fitted st page }
-{
-    if st.glyph + 1 == st.glyphs {
-        return hit(st);
+    fn next_glyph(self, page: u32) -> Progress
+        requires { (self.at < self.records) × (self.records ≤ 16777216) × (self.glyph < 64) }
+        ensures { result ≡ next_glyph self page }
+    {
+        let glyph = self.glyph + 1;
+        let all = (self.records - self.at) * 64;
+        Progress {
+            left: all - glyph,
+            glyph,
+            page,
+            ..self
+        }
     }
-    if st.at + st.glyph + 1 < st.records {
-        return Fed {
-            act: FindAct::Pass,
-            state: next_glyph(st, page),
-        };
+
+    fn passed(self) -> Fed
+        requires { (self.at < self.records) × (self.records ≤ 16777216) }
+        ensures { result ≡ passed self }
+    {
+        Fed {
+            hit: None,
+            state: self.next_record(self.hits),
+        }
     }
-    passed(st)
-}
 
-fn page_of(st: Progress, r: Record) -> u32
-    ensures { result ≡ page_of st r }
-{
-    if st.glyph == 0 { r.ordinal } else { st.page }
-}
+    // A hit at the record. The row has room for every hit, since they were counted before; that is not known here, so it is tested.
+    fn hit(self) -> Fed
+        requires { (self.at < self.records) × (self.records ≤ 16777216) }
+        ensures { result ≡ hit_at self }
+    {
+        if self.hits < self.hmax {
+            Fed {
+                hit: Some(self.at as u32),
+                state: self.next_record(self.hits + 1),
+            }
+        } else {
+            self.passed()
+        }
+    }
 
-// Whether the record is the glyph that is wanted.
-fn fits(s: &[u8], q: &[u8], fl: &[u8], rows: &[u32], st: Progress, r: Record) -> bool
-    requires { (length rows.now ≡ 4609) × (st.glyph < 64) }
-    ensures { result ≡ fits_at s.now q.now fl.now rows.now st r }
-{
-    let page = page_of(st, r);
-    let own = name::name_of(s, r);
-    find_match::fits(own, q, fl, rows, st.glyph, page, r.ordinal, r.gap)
-}
+    // Behind a glyph that fits: the last one, another one, or the records end.
+    fn fitted(self, page: u32) -> Fed
+        requires { SearchGood self }
+        ensures { result ≡ fitted self page }
+    {
+        if self.glyph + 1 == self.glyphs {
+            return self.hit();
+        }
+        if self.at + self.glyph + 1 < self.records {
+            return Fed {
+                hit: None,
+                state: self.next_glyph(page),
+            };
+        }
+        self.passed()
+    }
 
-// One comparison.
-pub fn feed(s: &[u8], q: &[u8], fl: &[u8], rows: &[u32], st: Progress, r: Record) -> Fed
-    requires { (length rows.now ≡ 4609) × SearchGood st }
-    ensures { result ≡ feed_of s.now q.now fl.now rows.now st r }
-{
-    let fit = fits(s, q, fl, rows, st, r);
-    if fit {
-        let page = page_of(st, r);
-        fitted(st, page)
-    } else {
-        passed(st)
+    fn page_of(self, r: Record) -> u32
+        ensures { result ≡ page_of self r }
+    {
+        if self.glyph == 0 {
+            r.ordinal
+        } else {
+            self.page
+        }
+    }
+
+    // Whether the record is the glyph that is wanted.
+    fn fits(self, s: &[u8], question: &Question<'_>, r: Record) -> bool
+        requires { self.glyph < length question.now.glyphs.now }
+        ensures { result ≡ fits_at s.now question.now self r }
+    {
+        question.fits(s, self.glyph, self.page_of(r), Key::from(r))
+    }
+
+    // One comparison.
+    #[tactic(auto, unfolding(crate::specs::Compare::feed_of))]
+    pub fn feed(self, s: &[u8], question: &Question<'_>, r: Record) -> Fed
+        requires { (self.glyphs ≤ length question.now.glyphs.now) × SearchGood self }
+        ensures { result ≡ feed_of s.now question.now self r }
+    {
+        let fit = self.fits(s, question, r);
+        if fit {
+            self.fitted(self.page_of(r))
+        } else {
+            self.passed()
+        }
     }
 }

@@ -2,129 +2,89 @@
 // small. The records are read off the stream's commands, with no environment.
 #![tactic(auto)]
 
-ghost use Rattle.std.specs.Prelude.{◌≡◌, ◌+◌, ◌<◌, ◌≤◌, length, map, true};
-ghost use Rattle.rules.specs.Find.{goes_on, occurs, hits_from};
-ghost use Rattle.find_match.specs.Match.{key_in, sought_from};
+ghost use Rattle.std.specs.Prelude.{◌≡◌, ◌<◌, ◌≤◌, length, map, Some};
+ghost use Rattle.rules.specs.Find.{occurs, hits_from};
+ghost use Rattle.find_match.specs.Match.{key_in, glyphs_of};
 ghost use Rattle.find_outline.specs.Move.{standing, move_of};
-ghost use Rattle.find_keys.specs.Keys.{moves_left, keys_at, Fair};
-ghost use Rattle.find_count.specs.Count.{NextOf, turns_left, seen_from, Seen, stands_at, one};
+ghost use Rattle.find_keys.specs.Keys.{keys_at, Fair};
+ghost use Rattle.find_count.specs.Count.{seen_from, GoesOn, Nearer};
 
+use find_match::{Key, Question};
 use find_outline::{Moved, Outline};
 
-// One byte of a word, whitespace, a comment or a command.
+// A record of the stream: its key, and where the outline goes on.
+#[derive(Clone, Copy)]
+struct Found {
+    key: Key,
+    on: Outline,
+}
+
+// One byte of a word, whitespace, a comment or a command. Behind a command that is refused nothing stands.
+#[tactic(auto, using(crate::proofs::Steps::step_laws))]
 fn step(s: &[u8], o: Outline) -> Moved
     requires { Fair (length s.now) o × (o.at < length s.now) }
     ensures { result ≡ move_of s.now o }
 {
-    if o.at < o.end {
-        return find_outline::word_move(o);
+    if let Some(word) = o.word {
+        return o.word_move(word);
     }
-    let at = o.at;
-    let next = scan_lex::blank_end(s, at);
-    if at < next {
-        return find_outline::passed(o, next);
+    let next = scan_lex::blank_end(s, o.at);
+    if o.at < next {
+        return o.passed(next);
     }
-    let c = scan::scan(s, at);
-    find_outline::command_move(s.len(), o, c)
+    match scan::scan(s, o.at) {
+        Ok(c) => o.command_move(c),
+        Err(_) => o.passed(s.len()),
+    }
 }
 
 // The next record from there on, if there is one.
-fn next_record(s: &[u8], o: Outline) -> Moved
+#[tactic(auto, using(crate::proofs::Counting::nexting))]
+fn next_record(s: &[u8], o: Outline) -> Option<Found>
     requires { Fair (length s.now) o }
-    ensures { NextOf s.now o result }
+    ensures seen { seen_from s.now result ≡ map (key_in s.now) (keys_at s.now o) }
+    ensures goes_on { GoesOn s.now result }
+    ensures nearer { Nearer s.now o result }
 {
-    let mut d = o;
-    while d.at < s.len() {
-        let m = step(s, d);
-        let found = m.found;
-        if found {
-            return m;
+    let mut on = o;
+    while on.at < s.len() {
+        let m = step(s, on);
+        if let Some(key) = m.key {
+            return Some(Found { key, on: m.on });
         }
-        d = m.on;
+        on = m.on;
     }
-    find_outline::passing(d)
+    None
 }
 
-// Whether the record that was found, if one was, is the glyph numbered j, the first one being on a page.
-fn stands(s: &[u8], q: &[u8], fl: &[u8], rows: &[u32], j: usize, page: u32, m: Moved) -> bool
-    requires { (length rows.now ≡ 4609) × (j < 64) }
-    ensures { result ≡ stands_at s.now q.now fl.now rows.now j page m }
+// Whether the glyphs of the query stand at a record, on its page.
+#[tactic(auto, using(crate::proofs::Counting::goings))]
+fn occurs_at(s: &[u8], question: &Question<'_>, first: Found) -> bool
+    requires { Fair (length s.now) first.on }
+    ensures { result ≡ occurs (glyphs_of question.now) (seen_from s.now (Some first)) }
 {
-    let found = m.found;
-    if found {
-        let k = m.key;
-        let own = name::name_at(s, k.place, k.len);
-        find_match::fits(own, q, fl, rows, j, page, k.ordinal, k.gap)
-    } else {
-        false
-    }
-}
-
-// Whether the glyphs of the query stand at the record that was found, on a page.
-fn goes_on(
-    s: &[u8],
-    q: &[u8],
-    fl: &[u8],
-    rows: &[u32],
-    glyphs: usize,
-    page: u32,
-    first: Moved,
-) -> bool
-    requires { (length rows.now ≡ 4609) × (glyphs ≤ 64) × Seen s.now first }
-    ensures { result ≡ goes_on page (sought_from glyphs q.now fl.now rows.now 0) (seen_from s.now first) }
-{
-    let mut m = first;
-    let mut j = 0;
-    while j < glyphs {
-        let fit = stands(s, q, fl, rows, j, page, m);
-        if fit {
-            let on = m.on;
-            m = following(s, on);
-            j += 1;
-        } else {
-            return false;
+    let page = first.key.ordinal;
+    let mut found = Some(first);
+    for j in 0..question.glyphs.len() {
+        match found {
+            Some(r) if question.fits(s, j, page, r.key) => found = next_record(s, r.on),
+            _ => return false,
         }
     }
     true
 }
 
-// The next record from there on.
-fn following(s: &[u8], o: Outline) -> Moved
-    requires { Fair (length s.now) o }
-    ensures { (seen_from s.now result ≡ map (key_in s.now) (keys_at s.now o)) × Seen s.now result × (turns_left s.now result ≤ moves_left s.now o) }
-{
-    next_record(s, o)
-}
-
-// Whether the query occurs at the record that was found.
-fn occurs_at(s: &[u8], q: &[u8], fl: &[u8], rows: &[u32], glyphs: usize, first: Moved) -> bool
-    requires { (length rows.now ≡ 4609) × (glyphs ≤ 64) × Seen s.now first × (first.found ≡ true) }
-    ensures { result ≡ occurs (sought_from glyphs q.now fl.now rows.now 0) (seen_from s.now first) }
-{
-    let k = first.key;
-    goes_on(s, q, fl, rows, glyphs, k.ordinal, first)
-}
-
-fn counted(n: usize, hit: bool) -> usize
-    requires { n ≤ 40000000 }
-    ensures { result ≡ n + one hit }
-{
-    if hit { n + 1 } else { n }
-}
-
 // How many hits there are.
-pub fn count(s: &[u8], q: &[u8], fl: &[u8], rows: &[u32], glyphs: usize) -> usize
-    requires { (length rows.now ≡ 4609) × (glyphs ≤ 64) × (length s.now ≤ 16777216) }
-    ensures { result ≡ length (hits_from (sought_from glyphs q.now fl.now rows.now 0) 0 (map (key_in s.now) (keys_at s.now (standing 0 0 0)))) }
+#[tactic(auto, using(crate::proofs::Counting::countings))]
+pub fn count(s: &[u8], question: &Question<'_>) -> usize
+    requires { length s.now ≤ 16777216 }
+    ensures { result ≡ length (hits_from (glyphs_of question.now) 0 (map (key_in s.now) (keys_at s.now (standing 0 0 0)))) }
 {
-    let o = find_outline::standing(0, 0, 0);
-    let mut m = following(s, o);
     let mut n = 0;
-    while m.found {
-        let hit = occurs_at(s, q, fl, rows, glyphs, m);
-        n = counted(n, hit);
-        let on = m.on;
-        m = following(s, on);
+    let mut on = find_outline::standing(0, 0, 0);
+    while let Some(r) = next_record(s, on) {
+        n += usize::from(occurs_at(s, question, r));
+        on = r.on;
     }
     n
 }

@@ -1,6 +1,6 @@
 -- The search leaves the rules' list of hits in the row.
-use Rattle.std.specs.Prelude.{if◌then◌else◌}
-use Prim.Native.Nat.{ℕ, zero, suc, ◌+◌, ◌-◌, ◌<◌, ◌≤◌, min}
+use Rattle.std.specs.Prelude.{Option, Some, None, if◌then◌else◌}
+use Prim.Native.Nat.{ℕ, zero, suc, ◌+◌, ◌<◌, ◌≤◌, min}
 use native.Mathlib.Omega.{arith}
 use native.Mathlib.Numerals.{add-one}
 use mathlib.Core.Bool.{Bool, true, false, ◌&&◌}
@@ -15,16 +15,16 @@ use Rattle.rules.specs.Find.{Sought, goes_on, hits_from, Key as RulesKey}
 use Rattle.rules.specs.Record.{over}
 use Rattle.laws.proofs.Cases.{on, no as impossible, if_both, not_zero}
 use Rattle.read_model.proofs.Rows.{sets_append, over_is}
-use Rattle.find_match.specs.Match.{key_in, record_key, sought_from}
+use Rattle.find_match.specs.declared.Question.{Question}
+use Rattle.find_match.specs.Match.{key_in, record_key, glyphs_of}
+use Rattle.find_match.proofs.Glyphs.{glyph_here, glyphs_over}
 use Rattle.find_compare.specs.declared.Progress.{Progress}
 use Rattle.find_compare.specs.declared.Fed.{Fed}
-use Rattle.find_compare.specs.declared.FindAct.{FindAct}
-use Rattle.find_compare.specs.declared.FindAct.TheVariants as A
 use Rattle.find_compare.specs.Compare.{left_at, next_record, next_glyph, page_of, fits_at, passed, hit_at, fitted, feed_of, SearchGood}
 use Rattle.find_search.specs.Search.{blank, hits_after, Looked, looked_at, search_step_of, search_for, search_of}
 use Rattle.find_search.proofs.Looking.{Well, feed_well}
 
-module _ (s q fl rows : List ℕ) (recs : List Record) (n m : ℕ) (enough : n ≤ length recs) where
+module _ (s : List ℕ) (w : Question) (recs : List Record) (n : ℕ) (enough : n ≤ length recs) where
   -- what finding sees of the records
   abbrev seen : Record → RulesKey
   seen r = key_in s (record_key r)
@@ -33,7 +33,11 @@ module _ (s q fl rows : List ℕ) (recs : List Record) (n m : ℕ) (enough : n �
   keys = map seen (take n recs)
 
   abbrev pub wanted : List Sought
-  wanted = sought_from m q fl rows 0
+  wanted = glyphs_of w
+
+  -- how many they are
+  abbrev pub m : ℕ
+  m = length w.glyphs.now
 
   abbrev at : ℕ → Record
   at i = get_or recs i blank
@@ -69,7 +73,7 @@ module _ (s q fl rows : List ℕ) (recs : List Record) (n m : ℕ) (enough : n �
 
   -- what is still to be found
   abbrev going : Progress → Bool
-  going st = goes_on (page_of st (at (st.at + st.glyph))) (sought_from (m - st.glyph) q fl rows st.glyph) (drop (st.at + st.glyph) keys)
+  going st = goes_on (page_of st (at (st.at + st.glyph))) (drop st.glyph wanted) (drop (st.at + st.glyph) keys)
 
   abbrev rest : Progress → List ℕ
   rest st = if_hit (going st) st.at (from (st.at + 1))
@@ -110,30 +114,29 @@ module _ (s q fl rows : List ℕ) (recs : List Record) (n m : ℕ) (enough : n �
       first : st.at + 1 < n → rest (next_record st hits) ≡ if_hit (goes_on (at (st.at + 1)).ordinal wanted (drop (st.at + 1) keys)) (st.at + 1) (from (st.at + 1 + 1))
       first h =
           let e : st.at + 1 + 0 ≡ st.at + 1 = omega arith in
-          let d : m - 0 ≡ m = omega arith in
-          rw (e, d)
+          rw e
 
   -- ---- one turn
 
-  abbrev given : FindAct → List ℕ
-  given (A.Hit k i) = i ∷ []
-  given A.Pass = []
+  abbrev given : Option ℕ → List ℕ
+  given (Some i) = i ∷ []
+  given None = []
 
   abbrev Turned : Progress → Fed → Type 0
-  Turned st x = rest st ≡ given x.act ++ rest_or x.state
+  Turned st x = rest st ≡ given x.hit ++ rest_or x.state
 
   module _ (st : Progress) (f : Fair st) (g : SearchGood st) (roomy : 0 < length (rest st) → st.hits < st.hmax) where
     abbrev here : Record
     here = at (st.at + st.glyph)
 
     abbrev onward : Bool
-    onward = goes_on (page_of st here) (sought_from (m - (st.glyph + 1)) q fl rows (st.glyph + 1)) (drop (st.at + st.glyph + 1) keys)
+    onward = goes_on (page_of st here) (drop (st.glyph + 1) wanted) (drop (st.at + st.glyph + 1) keys)
 
-    going_is : going st ≡ (fits_at s q fl rows st here && onward)
-    unfolding goes_on sought_from
+    going_is : going st ≡ (fits_at s w st here && onward)
+    unfolding goes_on
     going_is =
-        let e : m - st.glyph ≡ suc (m - (st.glyph + 1)) = omega (arith, g.glyph, f.glyphs) in
-        rw (e, keys_at (st.at + st.glyph) (omega (arith, g.inside, f.records)))
+        let h : st.glyph < m = omega (arith, g.glyph, f.glyphs) in
+        rw (glyph_here w st.glyph h, keys_at (st.at + st.glyph) (omega (arith, g.inside, f.records)))
 
     passed_turned : going st ≡ false → Turned st (passed st)
     passed_turned e = rw e (sym (next_rest st st.hits f g))
@@ -144,7 +147,7 @@ module _ (s q fl rows : List ℕ) (recs : List Record) (n m : ℕ) (enough : n �
         let h : st.hits < st.hmax = roomy z in
         rw (lt-ltb st.hits st.hmax h, e) (ap (λ (l : List ℕ). st.at ∷ l) (sym (next_rest st (st.hits + 1) f g)))
 
-    glyph_turned : fits_at s q fl rows st here ≡ true → eqb (st.glyph + 1) st.glyphs ≡ false → st.at + st.glyph + 1 < st.records → Turned st (record { act = A.Pass; state = next_glyph st (page_of st here) })
+    glyph_turned : fits_at s w st here ≡ true → eqb (st.glyph + 1) st.glyphs ≡ false → st.at + st.glyph + 1 < st.records → Turned st (record { hit = None; state = next_glyph st (page_of st here) })
     glyph_turned e z h =
         let l : 0 < left_at st.records st.at (st.glyph + 1) = omega (arith, g.inside, g.glyph, g.most) in
         let a : st.at + (st.glyph + 1) ≡ st.at + st.glyph + 1 = omega arith in
@@ -152,17 +155,17 @@ module _ (s q fl rows : List ℕ) (recs : List Record) (n m : ℕ) (enough : n �
         rw (ne_eqb (left_at st.records st.at (st.glyph + 1)) 0 (λ y. omega arith), going_is, e, a, b)
 
     last_goes : st.glyph + 1 ≡ st.glyphs → onward ≡ true
-    unfolding goes_on sought_from
-    last_goes e = let z : m - (st.glyph + 1) ≡ 0 = omega (arith, f.glyphs) in rw z
+    unfolding goes_on
+    last_goes e = let z : m ≤ st.glyph + 1 = omega (arith, f.glyphs) in rw (glyphs_over w (st.glyph + 1) z)
 
     end_stops : eqb (st.glyph + 1) st.glyphs ≡ false → n ≤ st.at + st.glyph + 1 → onward ≡ false
-    unfolding goes_on sought_from
+    unfolding goes_on
     end_stops e h =
         let y : st.glyph + 1 ≡ st.glyphs → ⊥ = λ z. impossible (sym e ∙ eq-eqb (st.glyph + 1) st.glyphs z) in
-        let z : m - (st.glyph + 1) ≡ suc (m - (st.glyph + 1) - 1) = omega (arith, g.glyph, f.glyphs, y) in
-        rw (z, keys_end (st.at + st.glyph + 1) h)
+        let z : st.glyph + 1 < m = omega (arith, g.glyph, f.glyphs, y) in
+        rw (glyph_here w (st.glyph + 1) z, keys_end (st.at + st.glyph + 1) h)
 
-    fitted_turned : fits_at s q fl rows st here ≡ true → Turned st (fitted st (page_of st here))
+    fitted_turned : fits_at s w st here ≡ true → Turned st (fitted st (page_of st here))
     fitted_turned e =
         on (eqb (st.glyph + 1) st.glyphs)
         (λ z. rw z (hit_turned (going_is ∙ rw (e, last_goes (eqb-true (st.glyph + 1) st.glyphs z)))))
@@ -170,26 +173,26 @@ module _ (s q fl rows : List ℕ) (recs : List Record) (n m : ℕ) (enough : n �
         (λ y. rw (z, y) (glyph_turned e z (ltb-true (st.at + st.glyph + 1) st.records y)))
         (λ y. rw (z, y) (passed_turned (going_is ∙ rw (e, end_stops z (let x : st.records ≤ st.at + st.glyph + 1 = ltb-false (st.at + st.glyph + 1) st.records y in omega (arith, f.records)))))))
 
-    pub feed_turned : Turned st (feed_of s q fl rows st here)
+    pub feed_turned : Turned st (feed_of s w st here)
     unfolding feed_of
     feed_turned =
-        on (fits_at s q fl rows st here) (λ e. rw e (fitted_turned e)) (λ e. rw e (passed_turned (going_is ∙ rw e)))
+        on (fits_at s w st here) (λ e. rw e (fitted_turned e)) (λ e. rw e (passed_turned (going_is ∙ rw e)))
 
   -- ---- where the hits go
 
-  abbrev Counted : Progress → FindAct → Progress → Type 0
-  Counted st (A.Hit k i) d = (k ≡ st.hits) × (d.hits ≡ st.hits + 1) × (d.glyphs ≡ st.glyphs) × (d.records ≡ st.records)
-  Counted st A.Pass d = (d.hits ≡ st.hits) × (d.glyphs ≡ st.glyphs) × (d.records ≡ st.records)
+  abbrev Counted : Progress → Option ℕ → Progress → Type 0
+  Counted st (Some i) d = (d.hits ≡ st.hits + 1) × (d.glyphs ≡ st.glyphs) × (d.records ≡ st.records)
+  Counted st None d = (d.hits ≡ st.hits) × (d.glyphs ≡ st.glyphs) × (d.records ≡ st.records)
 
   abbrev Counts : Progress → Fed → Type 0
-  Counts st x = Counted st x.act x.state
+  Counts st x = Counted st x.hit x.state
 
-  feed_counts : (st : Progress) (r : Record) → Counts st (feed_of s q fl rows st r)
+  feed_counts : (st : Progress) (r : Record) → Counts st (feed_of s w st r)
   unfolding feed_of
   feed_counts st r =
-      if_both (Counts st) (fits_at s q fl rows st r) (fitted st (page_of st r)) (passed st)
+      if_both (Counts st) (fits_at s w st r) (fitted st (page_of st r)) (passed st)
       (if_both (Counts st) (eqb (st.glyph + 1) st.glyphs) (hit_at st) _
-      (if_both (Counts st) (ltb st.hits st.hmax) _ (passed st) (refl, refl, refl, refl) (refl, refl, refl))
+      (if_both (Counts st) (ltb st.hits st.hmax) _ (passed st) (refl, refl, refl) (refl, refl, refl))
       (if_both (Counts st) (ltb (st.at + st.glyph + 1) st.records) _ (passed st) (refl, refl, refl) (refl, refl, refl)))
       (refl, refl, refl)
 
@@ -205,10 +208,10 @@ module _ (s q fl rows : List ℕ) (recs : List Record) (n m : ℕ) (enough : n �
 
     module _ (p : Looked) (v : Found p) (h : 0 < p.state.left) where
       abbrev fed : Fed
-      fed = looked_at s q fl rows recs p
+      fed = looked_at s w recs p
 
       fed_well : Well p.state fed
-      fed_well = feed_well p.state (v.fair.good h) s q fl rows (at (p.state.at + p.state.glyph))
+      fed_well = feed_well p.state (v.fair.good h) s w (at (p.state.at + p.state.glyph))
 
       all_here : v.found ++ rest p.state ≡ hits_from wanted 0 keys
       all_here = ap (λ (b : Bool). v.found ++ (if b then [] else rest p.state)) (sym (left_some p.state v.fair h)) ∙ v.all
@@ -218,22 +221,22 @@ module _ (s q fl rows : List ℕ) (recs : List Record) (n m : ℕ) (enough : n �
           let e : length (v.found ++ rest p.state) ≡ length (hits_from wanted 0 keys) = ap length all_here in
           omega (arith, e, length-append v.found (rest p.state), v.count, v.hmax, room)
 
-      turned : rest p.state ≡ given fed.act ++ rest_or fed.state
+      turned : rest p.state ≡ given fed.hit ++ rest_or fed.state
       turned = feed_turned p.state v.fair (v.fair.good h) roomy
 
-      pub found_more : Found (search_step_of s q fl rows recs p)
-      found_more = go fed.act turned (feed_counts p.state (at (p.state.at + p.state.glyph)))
+      pub found_more : Found (search_step_of s w recs p)
+      found_more = go fed.hit turned (feed_counts p.state (at (p.state.at + p.state.glyph)))
         where
-          go : (a : FindAct) → rest p.state ≡ given a ++ rest_or fed.state → Counted p.state a fed.state → Found (record { state = fed.state; hits = hits_after p.hits a })
-          go (A.Hit k i) e c = record {
+          go : (a : Option ℕ) → rest p.state ≡ given a ++ rest_or fed.state → Counted p.state a fed.state → Found (record { state = fed.state; hits = hits_after p.hits p.state.hits a })
+          go (Some i) e c = record {
             found = v.found ++ i ∷ [];
-            row = rw (v.row, c.0, ← v.count) (ap (λ (k : ℕ). set (sets old 0 v.found) k i) (let z : length v.found ≡ 0 + length v.found = omega arith in z) ∙ sets_append v.found (i ∷ []) old 0);
-            count = length-append v.found (i ∷ []) ∙ (let z : length v.found + 1 ≡ fed.state.hits = omega (arith, v.count, c.1) in z);
+            row = rw (v.row, ← v.count) (ap (λ (k : ℕ). set (sets old 0 v.found) k i) (let z : length v.found ≡ 0 + length v.found = omega arith in z) ∙ sets_append v.found (i ∷ []) old 0);
+            count = length-append v.found (i ∷ []) ∙ (let z : length v.found + 1 ≡ fed.state.hits = omega (arith, v.count, c.0) in z);
             all = append_assoc v.found (i ∷ []) (rest_or fed.state) ∙ ap (λ (l : List ℕ). v.found ++ l) (sym e) ∙ all_here;
-            fair = record { records = c.3 ∙ v.fair.records; glyphs = c.2 ∙ v.fair.glyphs; good = fed_well.good };
+            fair = record { records = c.2 ∙ v.fair.records; glyphs = c.1 ∙ v.fair.glyphs; good = fed_well.good };
             hmax = fed_well.hmax ∙ v.hmax;
           }
-          go A.Pass e c = record {
+          go None e c = record {
             found = v.found;
             row = v.row;
             count = v.count ∙ sym c.0;
@@ -242,7 +245,7 @@ module _ (s q fl rows : List ℕ) (recs : List Record) (n m : ℕ) (enough : n �
             hmax = fed_well.hmax ∙ v.hmax;
           }
 
-    found_for : (f : ℕ) (p : Looked) → Found p → p.state.left ≤ f → Found (search_for f s q fl rows recs p) × ((search_for f s q fl rows recs p).state.left ≡ 0)
+    found_for : (f : ℕ) (p : Looked) → Found p → p.state.left ≤ f → Found (search_for f s w recs p) × ((search_for f s w recs p).state.left ≡ 0)
     unfolding search_for
     found_for zero p v l = (v, omega arith)
     found_for (suc f) p v l =
@@ -250,7 +253,7 @@ module _ (s q fl rows : List ℕ) (recs : List Record) (n m : ℕ) (enough : n �
         (λ z. rw z (v, eqb-true p.state.left 0 z))
         (λ z.
         let h : 0 < p.state.left = not_zero p.state.left z in
-        rw z (found_for f (search_step_of s q fl rows recs p) (found_more p v h) (omega (arith, (fed_well p v h).less))))
+        rw z (found_for f (search_step_of s w recs p) (found_more p v h) (omega (arith, (fed_well p v h).less))))
 
     -- from the first record on
     abbrev pub fresh : Progress
@@ -272,18 +275,17 @@ module _ (s q fl rows : List ℕ) (recs : List Record) (n m : ℕ) (enough : n �
             (λ z.
             let h : 0 < n = ltb-true 0 n z in
             let l : 0 < left_at n 0 0 = omega arith in
-            let e : m - 0 ≡ m = omega arith in
-            rw (ne_eqb (left_at n 0 0) 0 (λ y. omega arith), e) (sym (from_at 0 h)))
+            rw (ne_eqb (left_at n 0 0) 0 (λ y. omega arith)) (sym (from_at 0 h)))
             (λ z.
             let h : n ≤ 0 = ltb-false 0 n z in
             let l : left_at n 0 0 ≡ 0 = omega arith in
             rw (eq-eqb (left_at n 0 0) 0 l) (sym (from_end 0 h)))
 
     pub search_exact : n ≤ 16777216 → 1 ≤ m → m ≤ 64
-        → ((search_of s q fl rows recs (record { state = fresh; hits = old })).hits ≡ over (hits_from wanted 0 keys) old) × ((search_of s q fl rows recs (record { state = fresh; hits = old })).state.hits ≡ length (hits_from wanted 0 keys))
+        → ((search_of s w recs (record { state = fresh; hits = old })).hits ≡ over (hits_from wanted 0 keys) old) × ((search_of s w recs (record { state = fresh; hits = old })).state.hits ≡ length (hits_from wanted 0 keys))
     search_exact a b c =
-        let e : Found (search_of s q fl rows recs (record { state = fresh; hits = old })) × ((search_of s q fl rows recs (record { state = fresh; hits = old })).state.left ≡ 0) =
+        let e : Found (search_of s w recs (record { state = fresh; hits = old })) × ((search_of s w recs (record { state = fresh; hits = old })).state.left ≡ 0) =
         found_for (left_at n 0 0) (record { state = fresh; hits = old }) (fresh_found a b c) (omega arith) in
-        let v : Found (search_of s q fl rows recs (record { state = fresh; hits = old })) = e.0 in
-        let l : v.found ≡ hits_from wanted 0 keys = sym (append-nil v.found) ∙ ap (λ (k : Bool). v.found ++ (if k then [] else rest (search_of s q fl rows recs (record { state = fresh; hits = old })).state)) (sym (eq-eqb (search_of s q fl rows recs (record { state = fresh; hits = old })).state.left 0 e.1)) ∙ v.all in
+        let v : Found (search_of s w recs (record { state = fresh; hits = old })) = e.0 in
+        let l : v.found ≡ hits_from wanted 0 keys = sym (append-nil v.found) ∙ ap (λ (k : Bool). v.found ++ (if k then [] else rest (search_of s w recs (record { state = fresh; hits = old })).state)) (sym (eq-eqb (search_of s w recs (record { state = fresh; hits = old })).state.left 0 e.1)) ∙ v.all in
         (v.row ∙ ap (sets old 0) l ∙ over_is (hits_from wanted 0 keys) old room, sym v.count ∙ ap length l)

@@ -2,33 +2,32 @@
 use Prim.Native.Nat.{ℕ, zero, suc, ◌+◌, ◌-◌, ◌<◌, ◌≤◌}
 use native.Mathlib.Omega.{arith}
 use mathlib.Core.List.{List, []}
-use mathlib.Core.Path.{◌≡◌, refl, sym, ap, ◌∙◌}
+use mathlib.Core.Path.{◌≡◌, refl, sym, ap, subst, ◌∙◌}
 use lib.Dec.{ltb}
 use lib.ListN.{length, drop, get_or}
 use borrow.Author.Tests.{lt-ltb, le-ltb, ltb-true, ltb-false}
 use Rattle.rules.specs.Bytes.{origin, is, is_white, one_line}
 use Rattle.laws.proofs.Cases.{on, if_both, if_on}
 use Rattle.laws_scan.proofs.Walk.{comment_in}
+use Rattle.std.specs.Prelude.{Option, Some, None, Result, Ok, Err}
+use Rattle.rules.specs.declared.Refusal.{Refusal}
 use Rattle.scan_command.specs.declared.Command.{Command}
 use Rattle.scan_command.specs.declared.Command.TheVariants as C
 use Rattle.scan_command.specs.View.{command_at}
-use Rattle.read_model.specs.Fits.{CommandIn}
+use Rattle.read_model.specs.Fits.{CommandIn, ScannedIn}
 use Rattle.read_model.proofs.Fits.{command-fits}
+use Rattle.find_outline.specs.declared.Word.{Word}
 use Rattle.find_outline.specs.declared.Outline.{Outline}
 use Rattle.find_outline.specs.declared.Moved.{Moved}
-use Rattle.find_outline.specs.Move.{standing, word_move, command_move, move_of}
-use Rattle.find_keys.specs.Keys.{keys_on, keys_for, in_word, moves_left, keys_at, Fair}
+use Rattle.find_outline.specs.Move.{standing, word_move, command_move, scanned_move, move_in, move_of}
+use Rattle.find_keys.specs.Keys.{keys_on, keys_for, into_word, moves_left, keys_at, WordIn, Fair}
 
 -- ---- each move takes it on
 
-not_in_word : (q g o : ℕ) → in_word (standing q g o) ≡ 1
-not_in_word q g o = rw (le-ltb q 0 (omega arith))
-
-word_in : (o : Outline) → o.at < o.end → in_word o ≡ 0
-word_in o h = rw (lt-ltb o.at o.end h)
-
-word_out : (o : Outline) → o.end ≤ o.at → in_word o ≡ 1
-word_out o h = rw (le-ltb o.at o.end h)
+-- in a word or not, with the equation
+pub by_word {ℓ} : {X : Type ℓ} (x : Option Word) → ((w : Word) → x ≡ Some w → X) → (x ≡ None → X) → X
+by_word (Some w) f g = f w refl
+by_word None f g = g refl
 
 -- where a move leads in a stream
 pub record Onward (s : List ℕ) (o on : Outline) : Type 0 where
@@ -36,33 +35,35 @@ pub record Onward (s : List ℕ) (o on : Outline) : Type 0 where
   pub less : moves_left s on < moves_left s o
 
 module _ (s : List ℕ) (o : Outline) (f : Fair (length s) o) (h : o.at < length s) where
-  standing_on : (q g k : ℕ) → o.end ≤ o.at → o.at < q → q ≤ length s → k ≤ q → Onward s o (standing q g k)
-  standing_on q g k w a b c = record {
-    fair = record { within = b; most = f.most; pages = c; word = λ z. absurd (let y : q < 0 = z in omega arith) };
-    less = omega (arith, not_in_word q g k, word_out o w);
+  standing_on : (q g k : ℕ) → o.word ≡ None → o.at < q → q ≤ length s → k ≤ q → Onward s o (standing q g k)
+  standing_on q g k e a b c = record {
+    fair = record { within = b; most = f.most; pages = c; word = tt };
+    less = let z : into_word o.word ≡ 1 = ap into_word e in omega arith;
   }
 
-  word_on : o.at < o.end → Onward s o (word_move o).on
-  word_on w =
-      if_on (Onward s o) (ltb (o.at + 1) o.end) _ _
-      (λ z.
-      let l : o.at + 1 < o.end = ltb-true (o.at + 1) o.end z in
+  word_on : (w : Word) → o.word ≡ Some w → Onward s o (word_move o w).on
+  word_on w e =
+      let i : WordIn (length s) o.at (Some w) = rw e at f.word in
+      let z : into_word o.word ≡ 0 = ap into_word e in
+      if_on (Onward s o) (ltb (o.at + 1) w.end) _ _
+      (λ y.
+      let l : o.at + 1 < w.end = ltb-true (o.at + 1) w.end y in
       record {
-        fair = record { within = omega (arith, f.word w); most = f.most; pages = omega (arith, f.pages); word = λ y. f.word w };
-        less = omega (arith, word_in o w, word_in (record { at = o.at + 1; end = o.end; next = o.next; gap = 0; ordinal = o.ordinal }) l);
+        fair = record { within = omega (arith, i); most = f.most; pages = omega (arith, f.pages); word = (l, i.1, i.2) };
+        less = omega (arith, i);
       })
-      (λ z.
+      (λ y.
       record {
-        fair = record { within = (f.word w).1; most = f.most; pages = omega (arith, f.pages, f.word w); word = λ y. absurd (let x : o.next < 0 = y in omega arith) };
-        less = omega (arith, word_in o w, not_in_word o.next 0 o.ordinal, f.word w);
+        fair = record { within = i.2; most = f.most; pages = omega (arith, f.pages, i); word = tt };
+        less = omega (arith, i);
       })
 
-  command_on : o.end ≤ o.at → (c : Command) → CommandIn o.at (length s) c → Onward s o (command_move (length s) o c).on
+  command_on : o.word ≡ None → (c : Command) → CommandIn o.at (length s) c → Onward s o (command_move o c).on
   command_on w (C.Glyph p l q) i = standing_on q 0 o.ordinal w i.0.0 i.0.1 (omega (arith, i.0, f.pages))
   command_on w (C.Index k q) i = if_both (λ (m : Moved). Onward s o m.on) (ltb k origin) _ _ (standing_on q 1 o.ordinal w i.0.0 i.0.1 (omega (arith, i.0, f.pages))) (standing_on q 0 o.ordinal w i.0.0 i.0.1 (omega (arith, i.0, f.pages)))
   command_on w (C.Word t p r q) i = record {
-    fair = record { within = omega (arith, i.0, i.3, i.4); most = f.most; pages = omega (arith, i.2, f.pages); word = λ z. (i.4, i.0.1) };
-    less = omega (arith, word_out o w, word_in (record { at = p; end = r; next = q; gap = o.gap; ordinal = o.ordinal }) i.3, i.2);
+    fair = record { within = omega (arith, i.0, i.3, i.4); most = f.most; pages = omega (arith, i.2, f.pages); word = (i.3, i.4, i.0.1) };
+    less = let z : into_word o.word ≡ 1 = ap into_word w in omega (arith, i.2);
   }
   command_on w (C.Pair k p q) i = standing_on q 0 o.ordinal w i.0.0 i.0.1 (omega (arith, i.0, f.pages))
   command_on w (C.To x k q) i = standing_on q o.gap o.ordinal w i.0.0 i.0.1 (omega (arith, i.0, f.pages))
@@ -84,18 +85,24 @@ module _ (s : List ℕ) (o : Outline) (f : Fair (length s) o) (h : o.at < length
   command_on w (C.Plain b q) i = standing_on q o.gap o.ordinal w i.0 i.1 (omega (arith, i, f.pages))
   command_on w (C.Raw q) i = standing_on q o.gap o.ordinal w i.0 i.1 (omega (arith, i, f.pages))
   command_on w (C.Stop q) i = standing_on q o.gap o.ordinal w i.0 i.1 (omega (arith, i, f.pages))
-  command_on w (C.Refused k p) i = standing_on (length s) o.gap o.ordinal w h (omega arith) (omega (arith, f.pages))
+
+  scanned_on : o.word ≡ None → (r : Result Command Refusal) → ScannedIn o.at (length s) r → Onward s o (scanned_move (length s) o r).on
+  scanned_on w (Ok c) i = command_on w c i
+  scanned_on w (Err r) i = standing_on (length s) o.gap o.ordinal w h (omega arith) (omega (arith, f.pages))
+
+  -- what lies between two words
+  between_on : o.word ≡ None → Onward s o (move_in s o None).on
+  between_on w =
+      let P : Moved → Type 0 = λ m. Onward s o m.on in
+      if_both P (is_white (get_or s o.at 0)) _ _ (standing_on (o.at + 1) o.gap o.ordinal w (omega arith) (omega arith) (omega (arith, f.pages)))
+      (if_both P (is "#" (get_or s o.at 0)) _ _ (standing_on (o.at + 1 + one_line (drop (o.at + 1) s)) o.gap o.ordinal w (omega arith) (comment_in s o.at h) (omega (arith, f.pages)))
+      (scanned_on w (command_at s o.at) (command-fits s o.at h)))
 
   pub move_on : Onward s o (move_of s o).on
   unfolding move_of
   move_on =
-      let P : Moved → Type 0 = λ m. Onward s o m.on in
-      if_on P (ltb o.at o.end) (word_move o) _ (λ z. word_on (ltb-true o.at o.end z))
-      (λ z.
-      let w : o.end ≤ o.at = ltb-false o.at o.end z in
-      if_both P (is_white (get_or s o.at 0)) _ _ (standing_on (o.at + 1) o.gap o.ordinal w (omega arith) (omega arith) (omega (arith, f.pages)))
-      (if_both P (is "#" (get_or s o.at 0)) _ _ (standing_on (o.at + 1 + one_line (drop (o.at + 1) s)) o.gap o.ordinal w (omega arith) (comment_in s o.at h) (omega (arith, f.pages)))
-      (command_on w (command_at s o.at) (command-fits s o.at h))))
+      by_word o.word (λ w e. subst (λ (x : Option Word). Onward s o (move_in s o x).on) (sym e) (word_on w e))
+      (λ e. subst (λ (x : Option Word). Onward s o (move_in s o x).on) (sym e) (between_on e))
 
 -- ---- the keys do not depend on how many moves are allowed
 

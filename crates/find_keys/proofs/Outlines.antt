@@ -1,5 +1,5 @@
 -- The keys that the moves give, from any place on, are those of the outline from there on.
-use Rattle.std.specs.Prelude.{if◌then◌else◌}
+use Rattle.std.specs.Prelude.{Option, Some, None}
 use Prim.Native.Nat.{ℕ, zero, suc, ◌+◌, ◌-◌, ◌<◌, ◌≤◌}
 use native.Mathlib.Omega.{arith}
 use mathlib.Core.Bool.{true, false}
@@ -8,7 +8,7 @@ use mathlib.Core.Path.{◌≡◌, refl, sym, ap, subst, ◌∙◌}
 use lib.Dec.{ltb}
 use lib.ListN.{length, take, drop, get_or}
 use lib.Seq.{drop-drop}
-use borrow.Author.Tests.{lt-ltb, le-ltb, ltb-true, ltb-false}
+use borrow.Author.Tests.{ltb-true, ltb-false}
 use Rattle.rules.specs.Bytes.{origin, is, is_white, one_line}
 use Rattle.rules.specs.Act.{glyph, index, to, by, page, font, size, colour, break, space, draw, device, resolution, init, file, mount, plain, raw, stop, line, arc, circle, solid_circle, ellipse, solid_ellipse, polygon, solid_polygon, spline, thickness, gray_fill, colour_fill, Cmd, just, word, pair}
 use Rattle.rules.specs.Scan.{Scan, name_in, got, bad, command, Cmds, commands, bare}
@@ -22,22 +22,24 @@ use Rattle.laws_read.specs.Outline.{Sign, named_sign, gap_sign, byte_sign, signs
 use Rattle.scan_command.specs.View.{cmd_of, command_of, command_at}
 use Rattle.name.specs.Part.{part_of}
 use Rattle.find_match.specs.Match.{key_in}
+use Rattle.find_outline.specs.declared.Word.{Word}
 use Rattle.find_outline.specs.declared.Outline.{Outline}
 use Rattle.find_outline.specs.declared.Moved.{Moved}
-use Rattle.find_outline.specs.Move.{passing, standing, naming, word_move, command_move, move_of}
-use Rattle.find_keys.specs.Keys.{keys_on, keys_for, moves_left, keys_at, Fair}
-use Rattle.find_keys.proofs.Keys.{Onward, move_on, keys_end, keys_move}
+use Rattle.find_outline.specs.Move.{passing, standing, naming, word_move, command_move, scanned_move, move_of}
+use Rattle.find_keys.specs.Keys.{keys_on, keys_for, moves_left, keys_at, WordIn, Fair}
+use Rattle.find_keys.proofs.Keys.{by_word, Onward, move_on, keys_end, keys_move}
 
 module _ (s : List ℕ) where
   -- the outline from a place on
   abbrev pub rest_at : ℕ → List Sign
   rest_at at = outline (bare (from s at))
 
-  abbrev pub marks_at : Outline → List Sign
-  marks_at o = if ltb o.at o.end then map byte_sign (take (o.end - o.at) (drop o.at s)) ++ rest_at o.next else rest_at o.at
+  abbrev pub marks_in : ℕ → Option Word → List Sign
+  marks_in at (Some w) = map byte_sign (take (w.end - at) (drop at s)) ++ rest_at w.next
+  marks_in at None = rest_at at
 
-  stand_marks : (q g k : ℕ) → marks_at (standing q g k) ≡ rest_at q
-  stand_marks q g k = rw (le-ltb q 0 (omega arith))
+  abbrev pub marks_at : Outline → List Sign
+  marks_at o = marks_in o.at o.word
 
   rest_end : (at : ℕ) → length s ≤ at → rest_at at ≡ []
   unfolding outline
@@ -64,29 +66,30 @@ module _ (s : List ℕ) where
     named place len p n e = ap (λ (r : List RulesKey). record { name = part_of s place len; gap = o.gap; ordinal = o.ordinal } ∷ r) (more p n.fair (omega (arith, n.less))) ∙ e
 
     -- in a word
-    word_told : o.at < o.end → Onward s o (word_move o).on → Told (word_move o)
+    word_told : (w : Word) → o.word ≡ Some w → Onward s o (word_move o w).on → Told (word_move o w)
     unfolding keys_from
-    word_told w n =
-        let e : o.end - o.at ≡ suc (o.end - (o.at + 1)) = omega arith in
-        named o.at 1 (word_move o).on n
-        (rw (lt-ltb o.at o.end w, e, cons_at s o.at h)
+    word_told w z n =
+        let i : WordIn (length s) o.at (Some w) = rw z at k.word in
+        let e : w.end - o.at ≡ suc (w.end - (o.at + 1)) = omega (arith, i) in
+        named o.at 1 (word_move o w).on n
+        (rw (z, e, cons_at s o.at h)
         (ap (λ (r : List RulesKey). record { name = get_or s o.at 0 ∷ []; gap = o.gap; ordinal = o.ordinal } ∷ r) rest))
       where
-        rest : keys_from (word_move o).on.ordinal (word_move o).on.gap (marks_at (word_move o).on) ≡ keys_from o.ordinal 0 (map byte_sign (take (o.end - (o.at + 1)) (drop (o.at + 1) s)) ++ rest_at o.next)
+        rest : keys_from (word_move o w).on.ordinal (word_move o w).on.gap (marks_at (word_move o w).on) ≡ keys_from o.ordinal 0 (map byte_sign (take (w.end - (o.at + 1)) (drop (o.at + 1) s)) ++ rest_at w.next)
         rest =
-            on (ltb (o.at + 1) o.end) (λ z. rw (z, z))
+            on (ltb (o.at + 1) w.end) (λ z. rw z)
             (λ z.
-            let y : o.end ≤ o.at + 1 = ltb-false (o.at + 1) o.end z in
-            let x : o.end - (o.at + 1) ≡ 0 = omega arith in
-            rw (z, x) (ap (keys_from o.ordinal 0) (stand_marks o.next 0 o.ordinal)))
+            let y : w.end ≤ o.at + 1 = ltb-false (o.at + 1) w.end z in
+            let x : w.end - (o.at + 1) ≡ 0 = omega arith in
+            rw (z, x))
 
-    module _ (w : o.end ≤ o.at) where
+    module _ (w : o.word ≡ None) where
       here : marks_at o ≡ rest_at o.at
-      here = rw (le-ltb o.at o.end w)
+      here = rw w
 
       -- on to a place with the same signs
       same_told : (q : ℕ) → Onward s o (standing q o.gap o.ordinal) → rest_at o.at ≡ rest_at q → Told (passing (standing q o.gap o.ordinal))
-      same_told q n e = passed (standing q o.gap o.ordinal) n (ap (keys_from o.ordinal o.gap) (stand_marks q o.gap o.ordinal ∙ sym e ∙ sym here))
+      same_told q n e = passed (standing q o.gap o.ordinal) n (ap (keys_from o.ordinal o.gap) (sym e ∙ sym here))
 
       module _ (x : is_white (get_or s o.at 0) ≡ false) (y : is "#" (get_or s o.at 0) ≡ false) where
         module _ (c : Cmd) (a j : ℕ) (q : command (get_or s o.at 0) (drop (o.at + 1) s) ≡ got c a j) where
@@ -104,7 +107,7 @@ module _ (s : List ℕ) where
           rest_is = rw (from_got s o.at h x y c a j q)
 
         abbrev At : Cmd → ℕ → ℕ → Moved
-        At c a j = command_move (length s) o (cmd_of (o.at + a) (o.at + j) c)
+        At c a j = command_move o (cmd_of (o.at + a) (o.at + j) c)
 
         -- a command of no mark
         plain-told : (c : Cmd) (a j : ℕ) → command (get_or s o.at 0) (drop (o.at + 1) s) ≡ got c a j → signs_of c ≡ [] → Onward s o (standing (o.at + j) o.gap o.ordinal) → Told (passing (standing (o.at + j) o.gap o.ordinal))
@@ -113,7 +116,7 @@ module _ (s : List ℕ) where
         -- of a gap
         gap_told : (c : Cmd) (a j : ℕ) → command (get_or s o.at 0) (drop (o.at + 1) s) ≡ got c a j → signs_of c ≡ gap_sign ∷ [] → Onward s o (standing (o.at + j) 1 o.ordinal) → Told (passing (standing (o.at + j) 1 o.ordinal))
         unfolding keys_from
-        gap_told c a j q e n = passed (standing (o.at + j) 1 o.ordinal) n (rw (here, rest_is c a j q, e) (ap (keys_from o.ordinal 1) (stand_marks (o.at + j) 1 o.ordinal)))
+        gap_told c a j q e n = passed (standing (o.at + j) 1 o.ordinal) n (rw (here, rest_is c a j q, e))
 
         -- of a name
         name_told : (c : Cmd) (a j place len : ℕ) (t : List ℕ) → command (get_or s o.at 0) (drop (o.at + 1) s) ≡ got c a j → signs_of c ≡ named_sign t ∷ [] → part_of s place len ≡ t
@@ -121,7 +124,7 @@ module _ (s : List ℕ) where
         unfolding keys_from
         name_told c a j place len t q e z n =
             named place len (standing (o.at + j) 0 o.ordinal) n
-            (rw (here, rest_is c a j q, e, z) (ap (λ (r : List Sign). record { name = t; gap = o.gap; ordinal = o.ordinal } ∷ keys_from o.ordinal 0 r) (stand_marks (o.at + j) 0 o.ordinal)))
+            (rw (here, rest_is c a j q, e, z))
 
         index-told : (n a j : ℕ) → command (get_or s o.at 0) (drop (o.at + 1) s) ≡ got (just (index n)) a j → Onward s o (At (just (index n)) a j).on → Told (At (just (index n)) a j)
         unfolding keys_from
@@ -129,7 +132,7 @@ module _ (s : List ℕ) where
             on (ltb n origin)
             (λ z. rw z (gap_told (just (index n)) a j q (rw z) (rw z at r)))
             (λ z. rw z (named 0 0 (standing (o.at + j) 0 o.ordinal) (rw z at r)
-            (rw (here, rest_is (just (index n)) a j q, z) (ap (λ (m : List Sign). record { name = []; gap = o.gap; ordinal = o.ordinal } ∷ keys_from o.ordinal 0 m) (stand_marks (o.at + j) 0 o.ordinal)))))
+            (rw (here, rest_is (just (index n)) a j q, z))))
 
         got-told : (c : Cmd) (a j : ℕ) → command (get_or s o.at 0) (drop (o.at + 1) s) ≡ got c a j → Onward s o (At c a j).on → Told (At c a j)
         unfolding keys_from
@@ -137,7 +140,7 @@ module _ (s : List ℕ) where
         got-told (just (index n)) a j q r = index-told n a j q r
         got-told (just (to i n)) a j q r = plain-told (just (to i n)) a j q refl r
         got-told (just (by i n)) a j q r = plain-told (just (by i n)) a j q refl r
-        got-told (just (page n)) a j q r = passed (standing (o.at + j) 1 (o.ordinal + 1)) r (rw (here, rest_is (just (page n)) a j q) (ap (keys_from (o.ordinal + 1) 1) (stand_marks (o.at + j) 1 (o.ordinal + 1))))
+        got-told (just (page n)) a j q r = passed (standing (o.at + j) 1 (o.ordinal + 1)) r (rw (here, rest_is (just (page n)) a j q))
         got-told (just (font n)) a j q r = plain-told (just (font n)) a j q refl r
         got-told (just (size n)) a j q r = plain-told (just (size n)) a j q refl r
         got-told (just (colour c ns)) a j q r = plain-told (just (colour c ns)) a j q refl r
@@ -164,28 +167,27 @@ module _ (s : List ℕ) where
         got-told (just (raw t)) a j q r = plain-told (just (raw t)) a j q refl r
         got-told (just stop) a j q r = plain-told (just stop) a j q refl r
         got-told (word n bs) a j q r =
-            let z : 0 < length bs = (good (word n bs) a j q).1.some in
             let e : o.at + a + length bs - (o.at + a) ≡ length bs = omega arith in
             passed (At (word n bs) a j).on r
-            (rw (here, rest_is (word n bs) a j q, lt-ltb (o.at + a) (o.at + a + length bs) (omega arith), e, stands (word n bs) a j q))
+            (rw (here, rest_is (word n bs) a j q, e, stands (word n bs) a j q))
         got-told (pair n b) a j q r = name_told (pair n b) a j (o.at + a) 1 (b ∷ []) q refl (stands (pair n b) a j q) r
 
-        scan_told : (z : Scan) → command (get_or s o.at 0) (drop (o.at + 1) s) ≡ z → Onward s o (command_move (length s) o (command_of o.at z)).on → Told (command_move (length s) o (command_of o.at z))
+        scan_told : (z : Scan) → command (get_or s o.at 0) (drop (o.at + 1) s) ≡ z → Onward s o (scanned_move (length s) o (command_of o.at z)).on → Told (scanned_move (length s) o (command_of o.at z))
         unfolding outline
         scan_told (bad n i) q r = same_told (length s) r (rw (from_bad s o.at h x y n i q) (sym (rest_end (length s) (omega arith))))
         scan_told (got c a j) q r = got-told c a j q r
 
       white_is : is_white (get_or s o.at 0) ≡ true → move_of s o ≡ passing (standing (o.at + 1) o.gap o.ordinal)
       unfolding move_of
-      white_is z = rw (le-ltb o.at o.end w, z)
+      white_is z = rw (w, z)
 
       comment_is : is_white (get_or s o.at 0) ≡ false → is "#" (get_or s o.at 0) ≡ true → move_of s o ≡ passing (standing (o.at + 1 + one_line (drop (o.at + 1) s)) o.gap o.ordinal)
       unfolding move_of
-      comment_is z y = rw (le-ltb o.at o.end w, z, y)
+      comment_is z y = rw (w, z, y)
 
-      command_is : is_white (get_or s o.at 0) ≡ false → is "#" (get_or s o.at 0) ≡ false → move_of s o ≡ command_move (length s) o (command_of o.at (command (get_or s o.at 0) (drop (o.at + 1) s)))
+      command_is : is_white (get_or s o.at 0) ≡ false → is "#" (get_or s o.at 0) ≡ false → move_of s o ≡ scanned_move (length s) o (command_of o.at (command (get_or s o.at 0) (drop (o.at + 1) s)))
       unfolding move_of command_at
-      command_is z y = rw (le-ltb o.at o.end w, z, y)
+      command_is z y = rw (w, z, y)
 
       -- by what the move is
       told_by : (m : Moved) → move_of s o ≡ m → (Onward s o m.on → Told m) → Onward s o (move_of s o).on → Told (move_of s o)
@@ -199,21 +201,21 @@ module _ (s : List ℕ) where
           (λ y. told_by _ (comment_is z y) (λ r. same_told (o.at + 1 + one_line (drop (o.at + 1) s)) r (ap (λ (x : Cmds). outline (bare x)) (from_comment s o.at h z y _ refl))) n)
           (λ y. told_by _ (command_is z y) (λ r. scan_told z y (command (get_or s o.at 0) (drop (o.at + 1) s)) refl r) n))
 
-    word_is : ltb o.at o.end ≡ true → move_of s o ≡ word_move o
+    word_is : (w : Word) → o.word ≡ Some w → move_of s o ≡ word_move o w
     unfolding move_of
-    word_is z = rw z
+    word_is w z = rw z
 
     move_told : Told (move_of s o)
     move_told =
-        on (ltb o.at o.end)
-        (λ z. subst Told (sym (word_is z)) (word_told (ltb-true o.at o.end z) (subst (λ (x : Moved). Onward s o x.on) (word_is z) (move_on s o k h))))
-        (λ z. other-told (ltb-false o.at o.end z) (move_on s o k h))
+        by_word o.word
+        (λ w z. subst Told (sym (word_is w z)) (word_told w z (subst (λ (x : Moved). Onward s o x.on) (word_is w z) (move_on s o k h))))
+        (λ z. other-told z (move_on s o k h))
 
   -- at the end
   end_shown : (f : ℕ) (o : Outline) → Fair (length s) o → length s ≤ o.at → Shown f o
   end_shown f o k h =
-      let w : o.end ≤ o.at = ltb-false o.at o.end (on (ltb o.at o.end) (λ z. let l : o.at < o.end = ltb-true o.at o.end z in absurd (omega (arith, k.word l))) (λ z. z)) in
-      rw (keys_end f s o h, le-ltb o.at o.end w, rest_end o.at h) (sym (keys_none o.ordinal o.gap))
+      by_word o.word (λ w z. let i : WordIn (length s) o.at (Some w) = rw z at k.word in absurd (omega (arith, i)))
+      (λ z. rw (keys_end f s o h, z, rest_end o.at h) (sym (keys_none o.ordinal o.gap)))
 
   keys_shown : (f : ℕ) (o : Outline) → Fair (length s) o → moves_left s o ≤ f → Shown f o
   keys_shown zero o k l = end_shown zero o k (omega arith)
@@ -225,5 +227,4 @@ module _ (s : List ℕ) where
   -- from the start of the stream
   pub all_keys : length s ≤ 16777216 → map (key_in s) (keys_at s (standing 0 0 0)) ≡ keys_from 0 0 (outline (bare (commands 0 0 s)))
   all_keys h =
-      keys_shown (moves_left s (standing 0 0 0)) (standing 0 0 0) (record { within = omega arith; most = h; pages = omega arith; word = λ z. absurd (let y : 0 < 0 = z in omega arith) }) (omega arith)
-      ∙ ap (keys_from 0 0) (stand_marks 0 0 0)
+      keys_shown (moves_left s (standing 0 0 0)) (standing 0 0 0) (record { within = omega arith; most = h; pages = omega arith; word = tt }) (omega arith)

@@ -1,62 +1,47 @@
 -- One record against one glyph of the query, as the code holds them.
-use Rattle.std.specs.Prelude.{ℕ, zero, suc, ◌+◌, ◌<◌, Bool, true, false, List, [], ◌∷◌, ◌≡◌, length, get_or}
-use Rattle.std.proofs.Math.Option.{Option, none, some}
+use Rattle.std.specs.Prelude.{ℕ, List, map, get_or, None, Result, Ok, Err}
+use Rattle.std.proofs.Math.Option.{Option as Maybe, none, some}
 use Rattle.rules.specs.declared.Record.{Record}
-use Rattle.rules.specs.Families.{Family}
-use Rattle.rules.specs.Find.{Gap, any_gap, no_gap, some_gap, Wanted, Sought, sought, other_page, other_name, gap_present, gap_absent, Key as RulesKey, Reason as RulesReason}
-use Rattle.laws_find.specs.Occurs.{wanted_at}
+use Rattle.rules.specs.Find.{Sought as RulesSought, other_page, other_name, gap_present, gap_absent, Key as RulesKey, Reason}
 use Rattle.name.specs.Part.{part_of}
-use Rattle.families_table.specs.Table.{kin_of}
+use Rattle.query_line.specs.declared.Gap.TheVariants.{Either}
+use Rattle.query_line.specs.Kinds.{gap_asked}
+use Rattle.families_table.specs.declared.Table.{Table}
+use Rattle.families_table.specs.Table.{kin_in}
 use Rattle.find_match.specs.declared.Key.{Key}
-use Rattle.find_match.specs.declared.Reason.{Reason}
-use Rattle.find_match.specs.declared.Reason.TheVariants as R
+use Rattle.find_match.specs.declared.Sought.{Sought}
+use Rattle.find_match.specs.declared.Question.{Question}
+use Rattle.find_match.specs.declared.Mismatch.{Mismatch}
+use Rattle.find_match.specs.declared.Mismatch.TheVariants as M
 
--- what finding looks at in a record: its name, page ordinal and gap mark
-abbrev pub key_by : List ℕ → ℕ → ℕ → RulesKey
-key_by name ordinal gap = record { name = name; gap = gap; ordinal = ordinal }
-
--- its name stands in the stream
+-- what finding looks at in a record: its name stands in the stream
 abbrev pub key_in : List ℕ → Key → RulesKey
-key_in s k = key_by (part_of s k.place k.len) k.ordinal k.gap
+key_in s k = record { name = part_of s k.place k.len; gap = k.gap; ordinal = k.ordinal }
 
 abbrev pub record_key : Record → Key
 record_key r = record { ordinal = r.ordinal; gap = r.gap; place = r.place; len = r.len }
 
--- The row of a finding has 4609 places: the family table (`families_table`); from 4352 on the places of the query's names, from 4416 on
--- their lengths, from 4480 on what each glyph asks of the gap mark, at 4544 how many glyphs there are, and from 4545 on the number of each
--- name's family, 0 where it is in none.
-abbrev pub gap_at : ℕ → Gap
-gap_at zero = any_gap
-gap_at (suc zero) = no_gap
-gap_at (suc (suc n)) = some_gap
+-- a glyph whose name stands in the query, and its family in the table
+abbrev pub sought_by : List ℕ → List ℕ → Table → Sought → RulesSought
+sought_by q fl tab g = record { gap = gap_asked g.gap; name = part_of q g.place g.len; family = kin_in fl tab g.family }
 
-abbrev pub sought_in : List ℕ → List ℕ → List ℕ → ℕ → Sought
-sought_in q fl rows j = record {
-  gap = gap_at (get_or rows (4480 + j) 0);
-  name = part_of q (get_or rows (4352 + j) 0) (get_or rows (4416 + j) 0);
-  family = kin_of fl rows (get_or rows (4545 + j) 0);
-}
+abbrev pub sought_in : Question → Sought → RulesSought
+sought_in w g = sought_by w.query.now w.families.now w.table.now g
 
--- the row holds the glyphs of the query, with the families of their names
-pub record RowOf (fs : List Family) (q : List ℕ) (qs : List Wanted) (fl rows : List ℕ) : Type 0 where
-  pub size : length rows ≡ 4609
-  pub each : (j : ℕ) → j < length qs → sought_in q fl rows j ≡ sought fs (wanted_at qs j)
+-- the glyphs of a question
+abbrev pub glyphs_of : Question → List RulesSought
+glyphs_of w = map (sought_in w) w.glyphs.now
 
-abbrev pub reason_of : Option RulesReason → Reason
-reason_of none = R.Fits
-reason_of (some other_page) = R.OtherPage
-reason_of (some other_name) = R.OtherName
-reason_of (some gap_present) = R.GapPresent
-reason_of (some gap_absent) = R.GapAbsent
+-- the glyph numbered j
+abbrev pub no_glyph : Sought
+no_glyph = record { place = 0; len = 0; gap = Either; family = None }
 
-abbrev pub is_fit : Reason → Bool
-is_fit R.Fits = true
-is_fit R.OtherPage = false
-is_fit R.OtherName = false
-is_fit R.GapPresent = false
-is_fit R.GapAbsent = false
+abbrev pub sought_at : Question → ℕ → RulesSought
+sought_at w j = sought_in w (get_or w.glyphs.now j no_glyph)
 
--- k glyphs of the query from the one numbered j on
-unfoldable pub sought_from : ℕ → List ℕ → List ℕ → List ℕ → ℕ → List Sought
-sought_from zero q fl rows j = []
-sought_from (suc k) q fl rows j = sought_in q fl rows j ∷ sought_from k q fl rows (j + 1)
+abbrev pub tested : Maybe Reason → Result Unit Mismatch
+tested none = Ok tt
+tested (some other_page) = Err M.OtherPage
+tested (some other_name) = Err M.OtherName
+tested (some gap_present) = Err M.GapPresent
+tested (some gap_absent) = Err M.GapAbsent

@@ -3,7 +3,12 @@
 
 ghost use Rattle.std.specs.Prelude.{◌≡◌, ◌<◌, length};
 ghost use Rattle.rules.specs.Find.{same_name, passes, gap_test, glyph_test};
-ghost use Rattle.find_match.specs.Match.{key_by, gap_at, sought_in, reason_of, is_fit};
+ghost use Rattle.query_line.specs.Kinds.{gap_asked};
+ghost use Rattle.find_match.specs.Match.{key_in, record_key, sought_in, sought_at, tested};
+
+use families_table::Table;
+use query_line::Gap;
+use rules::Record;
 
 // What finding looks at in a record, its name by its place.
 #[derive(Clone, Copy)]
@@ -14,107 +19,94 @@ pub struct Key {
     pub len: usize,
 }
 
-// It fits, or the first test that it fails.
+impl From<Record> for Key {
+    ghost from_gives = { λ r k. k ≡ record_key r };
+
+    fn from(r: Record) -> Key {
+        Key {
+            ordinal: r.ordinal,
+            gap: r.gap,
+            place: r.place as usize,
+            len: r.len as usize,
+        }
+    }
+}
+
+// A glyph of the query: its name by its place in the query, what it asks of the gap mark, and its name's family by its number.
 #[derive(Clone, Copy)]
-pub enum Reason {
-    Fits,
+pub struct Sought {
+    pub place: u32,
+    pub len: u32,
+    pub gap: Gap,
+    pub family: Option<usize>,
+}
+
+// A query that was judged, with the family list: its glyphs, and the families in their table.
+#[derive(Clone, Copy)]
+pub struct Question<'a> {
+    pub query: &'a [u8],
+    pub families: &'a [u8],
+    pub table: &'a Table,
+    pub glyphs: &'a [Sought],
+}
+
+// The first test that a record fails.
+#[derive(Clone, Copy)]
+pub enum Mismatch {
     OtherPage,
     OtherName,
     GapPresent,
     GapAbsent,
 }
 
-// The gap mark against what the glyph asks of it: 0 nothing, 1 that it is not set, 2 that it is.
-fn gap_test(asked: u32, gap: u32) -> Reason
-    ensures { result ≡ reason_of (gap_test (gap_at asked) gap) }
+// The gap mark against what the glyph asks of it.
+fn gap_test(asked: Gap, gap: u32) -> Result<(), Mismatch>
+    ensures { result ≡ tested (gap_test (gap_asked asked) gap) }
 {
-    if asked == 0 {
-        return Reason::Fits;
+    match asked {
+        Gap::Absent if gap != 0 => Err(Mismatch::GapPresent),
+        Gap::Present if gap == 0 => Err(Mismatch::GapAbsent),
+        _ => Ok(()),
     }
-    if asked == 1 {
-        return if gap == 0 {
-            Reason::Fits
+}
+
+impl Question<'_> {
+    // Whether a record's own name, a part of the stream, matches the name of a glyph: it is that name, or one of its family.
+    #[tactic(auto, unfolding(rules::specs::Families::is_in))]
+    fn is_named(&self, own: &[u8], glyph: Sought) -> bool
+        ensures { result ≡ same_name own.now (sought_in self.now glyph) }
+    {
+        let wanted = name::name_at(self.query, glyph.place as usize, glyph.len as usize);
+        if scan_lex::same_bytes(own, wanted) {
+            return true;
+        }
+        match glyph.family {
+            Some(k) => families_table::is_kin(self.families, self.table, k, own),
+            None => false,
+        }
+    }
+
+    // The test of the glyph numbered j, the first glyph's record being on a page: page, name, gap.
+    pub fn test(&self, s: &[u8], j: usize, page: u32, key: Key) -> Result<(), Mismatch>
+        requires { j < length self.now.glyphs.now }
+        ensures { result ≡ tested (glyph_test page (sought_at self.now j) (key_in s.now key)) }
+    {
+        if key.ordinal != page {
+            return Err(Mismatch::OtherPage);
+        }
+        let glyph = self.glyphs[j];
+        if self.is_named(name::name_at(s, key.place, key.len), glyph) {
+            gap_test(glyph.gap, key.gap)
         } else {
-            Reason::GapPresent
-        };
+            Err(Mismatch::OtherName)
+        }
     }
-    if gap == 0 {
-        Reason::GapAbsent
-    } else {
-        Reason::Fits
-    }
-}
 
-pub fn wide(x: u32) -> usize
-    ensures { result ≡ x }
-{
-    x as usize
-}
-
-// Whether a record's own name, a part of the stream, matches the name of a glyph of the query: it is that name, or one of its family.
-fn same_name(own: &[u8], q: &[u8], fl: &[u8], rows: &[u32], j: usize) -> bool
-    requires { (length rows.now ≡ 4609) × (j < 64) }
-    ensures { result ≡ same_name own.now (sought_in q.now fl.now rows.now j) }
-{
-    let place = wide(rows[4_352 + j]);
-    let len = wide(rows[4_416 + j]);
-    let wanted = name::name_at(q, place, len);
-    if scan_lex::same_bytes(own, wanted) {
-        return true;
+    // Whether a record is the glyph numbered j, the first one being on a page.
+    pub fn fits(&self, s: &[u8], j: usize, page: u32, key: Key) -> bool
+        requires { j < length self.now.glyphs.now }
+        ensures { result ≡ passes (glyph_test page (sought_at self.now j) (key_in s.now key)) }
+    {
+        self.test(s, j, page, key).is_ok()
     }
-    families_table::is_kin(fl, rows, wide(rows[4_545 + j]), own)
-}
-
-// The test of one glyph of the query, the first glyph's record being on a page: page, name, gap.
-pub fn test(
-    own: &[u8],
-    q: &[u8],
-    fl: &[u8],
-    rows: &[u32],
-    j: usize,
-    page: u32,
-    ordinal: u32,
-    gap: u32,
-) -> Reason
-    requires { (length rows.now ≡ 4609) × (j < 64) }
-    ensures { result ≡ reason_of (glyph_test page (sought_in q.now fl.now rows.now j) (key_by own.now ordinal gap)) }
-{
-    if ordinal != page {
-        return Reason::OtherPage;
-    }
-    if same_name(own, q, fl, rows, j) {
-        gap_test(rows[4_480 + j], gap)
-    } else {
-        Reason::OtherName
-    }
-}
-
-fn is_fit(r: Reason) -> bool
-    ensures { result ≡ is_fit r }
-{
-    match r {
-        Reason::Fits => true,
-        Reason::OtherPage => false,
-        Reason::OtherName => false,
-        Reason::GapPresent => false,
-        Reason::GapAbsent => false,
-    }
-}
-
-// Whether a record is the glyph numbered j, the first one being on a page.
-pub fn fits(
-    own: &[u8],
-    q: &[u8],
-    fl: &[u8],
-    rows: &[u32],
-    j: usize,
-    page: u32,
-    ordinal: u32,
-    gap: u32,
-) -> bool
-    requires { (length rows.now ≡ 4609) × (j < 64) }
-    ensures { result ≡ passes (glyph_test page (sought_in q.now fl.now rows.now j) (key_by own.now ordinal gap)) }
-{
-    let r = test(own, q, fl, rows, j, page, ordinal, gap);
-    is_fit(r)
 }

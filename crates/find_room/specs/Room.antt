@@ -1,27 +1,21 @@
 -- Whether the hits have room, in the code's own steps.
-use Rattle.std.specs.Prelude.{ℕ, ◌≤◌, Bool, false, List, map, ◌≡◌, ltb, eqb, length, get_or, if◌then◌else◌}
+use Rattle.std.specs.Prelude.{ℕ, Bool, ◌&&◌, List, map, ltb, eqb, length, Result, Ok, Err, if◌then◌else◌}
+use Rattle.rules.specs.declared.Refusal.{Refusal}
 use Rattle.rules.specs.Find.{hits_from}
+use Rattle.rules.specs.Answers.{refusal}
 use Rattle.read_model.specs.declared.State.{State}
-use Rattle.find_match.specs.Match.{key_in, sought_from}
+use Rattle.find_match.specs.declared.Question.{Question}
+use Rattle.find_match.specs.Match.{key_in, glyphs_of}
 use Rattle.find_outline.specs.Move.{standing}
 use Rattle.find_keys.specs.Keys.{keys_at}
 
 -- how many hits there are, as the outline tells
-abbrev pub hits_counted : List ℕ → List ℕ → List ℕ → List ℕ → ℕ
-hits_counted rows s q fl = length (hits_from (sought_from (get_or rows 4544 0) q fl rows 0) 0 (map (key_in s) (keys_at s (standing 0 0 0))))
-
--- where the judging pass ended at b with no refusal, the stream and the query are no longer than they may be
-pub record CountReady (s rows : List ℕ) (b : State) : Type 0 where
-  pub size : length rows ≡ 4609
-  pub short : b.refusal ≡ 0 → length s ≤ 16777216
-  pub few : b.refusal ≡ 0 → get_or rows 4544 0 ≤ 64
+abbrev pub hits_counted : List ℕ → Question → ℕ
+hits_counted s w = length (hits_from (glyphs_of w) 0 (map (key_in s) (keys_at s (standing 0 0 0))))
 
 -- more hits than room, where the judging pass ended well at b and the room is smaller than the number of records
-abbrev pub too_many : List ℕ → List ℕ → List ℕ → List ℕ → State → ℕ → Bool
-too_many rows s q fl b hmax =
-    if eqb b.refusal 0 then (
-    if eqb b.env.phase 4 then (
-    if ltb hmax b.records then ltb hmax (hits_counted rows s q fl)
-    else false)
-    else false)
-    else false
+abbrev pub too_many : List ℕ → Question → State → ℕ → Bool
+too_many s w b hmax = eqb b.refusal 0 && (eqb b.env.phase 4 && (ltb hmax b.records && ltb hmax (hits_counted s w)))
+
+abbrev pub room_of : List ℕ → Question → State → ℕ → Result Unit Refusal
+room_of s w b hmax = if too_many s w b hmax then Err (refusal 13 0) else Ok tt

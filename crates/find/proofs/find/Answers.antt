@@ -1,56 +1,75 @@
 -- What each call of the finder asks, and what it answers, by the laws of `find_twice`.
-use Rattle.std.proofs.Common.{◌≡◌, ℕ, Bool, ap, ◌∙◌, length}
-use Rattle.read_model.specs.declared.State.{State}
-use Rattle.find_setup.specs.Setup.{find_next_of}
+use Rattle.std.proofs.Common.{◌≡◌}
+use Rattle.std.specs.Prelude.{Err}
+use borrow.Author.Rules.{rules}
 use Rattle.read_twice.proofs.Twice.{pass_from}
-use Rattle.find_twice.proofs.Found.{row_size, start-sound, left_scratch, count_sound, next-sound, few_sound, search_sound, finds_as}
+use Rattle.find_twice.proofs.Found.{refused_call, sizes_refused, start_refused, start_sound, ask_refused, posed_as, asks_by, left_scratch, room_refused, again_refused, pass_sound, progress_sound, looking_sound, found_as}
 use Rattle.find.proofs.find.Goals as goal
 
--- the first pass keeps the length of the row of records
-again_is : (b : State) (n rmax room : ℕ) (too : Bool) (x : State) → rmax ≡ room → x ≡ find_next_of b n rmax too → x ≡ find_next_of b n room too
-again_is b n rmax room too x e h = h ∙ ap (λ (m : ℕ). find_next_of b n m too) e
+pub returns-in_err-in_size : goal.returns-in_err-in_size
+returns-in_err-in_size c =
+    let e : c.from_residual.result ≡ Err c.in_err-in_size.field-0.0 = search rules in
+    rw e (refused_call c.args.s.now c.args.list.now c.args.fl.now c.args.q.now c.args.records.now c.args.hits.now c.in_err-in_size.field-0.0 (sizes_refused c.args.s.now c.args.list.now c.args.fl.now c.args.q.now c.in_err-in_size.field-0.0 c.in_err-in_size.ensures))
 
-pub start-a-requires : goal.start-a-requires
-start-a-requires c = c.room-ws.ensures
+pub returns-in_err-a : goal.returns-in_err-a
+returns-in_err-a c =
+    let e : c.from_residual-in_err-a.result ≡ Err c.in_err-a.field-0.0 = search rules in
+    rw e (refused_call c.args.s.now c.args.list.now c.args.fl.now c.args.q.now c.args.records.now c.args.hits.now c.in_err-a.field-0.0 (start_refused c.args.s.now c.args.list.now c.args.fl.now c.args.q.now c.in_ok-in_size.field-0 c.in_ok-in_size.ensures c.start.new.ws c.in_err-a.field-0.0 c.in_err-a.ensures))
+
+pub returns-in_err-count : goal.returns-in_err-count
+returns-in_err-count c =
+    let e : c.from_residual-in_err-count.result ≡ Err c.in_err-count.field-0.0 = search rules in
+    rw e (refused_call c.args.s.now c.args.list.now c.args.fl.now c.args.q.now c.args.records.now c.args.hits.now c.in_err-count.field-0.0 (ask_refused c.args.s.now c.args.list.now c.args.fl.now c.args.q.now c.in_ok-in_size.field-0 c.in_ok-in_size.ensures c.start.new.ws c.in_ok-a.a c.in_ok-a.ensures c.ask.new.table c.ask.new.glyphs c.in_err-count.field-0.0 c.in_err-count.ensures))
 
 pub pass-b-requires : goal.pass-b-requires
-pass-b-requires c = start-sound c.args.s.now c.args.list.now c.args.fl.now c.args.q.now c.args.records.now c.no_entries-none.result c.args.hits.now c.ask-x.result c.ask-x.new.rows c.ask-x.ensures c.start-a.result c.start-a.new.ws c.start-a.ensures (length c.args.records.now) (length c.no_entries-none.result)
+pass-b-requires c = start_sound c.args.s.now c.args.list.now c.args.fl.now c.args.q.now c.in_ok-in_size.field-0 c.in_ok-in_size.ensures c.start.new.ws c.in_ok-a.a _ _ c.in_ok-a.ensures
 
-pub too_many-too-requires : goal.too_many-too-requires
-too_many-too-requires c = count_sound c.args.s.now c.args.list.now c.args.fl.now c.args.q.now c.args.records.now c.no_entries-none.result c.args.hits.now c.ask-x.result c.ask-x.new.rows c.ask-x.ensures c.start-a.result c.start-a.new.ws c.start-a.ensures
-    (pass_from c.pass-b.result c.pass-b.new.ws c.pass-b.new.records c.pass-b.new.entries) c.pass-b.ensures
+pub returns-in_err-room : goal.returns-in_err-room
+returns-in_err-room c =
+    let e : c.from_residual-in_err-room.result ≡ Err c.in_err-room.field-0.0 = search rules in
+    rw e (room_refused c.args.s.now c.args.list.now c.args.fl.now c.args.q.now c.posed-question.result c.in_ok-count.count c.in_ok-a.a c.start.new.ws
+    (asks_by c.args.s.now c.args.list.now c.args.fl.now c.args.q.now c.in_ok-in_size.field-0 c.in_ok-in_size.ensures c.in_ok-a.a c.start.new.ws c.in_ok-a.ensures c.ask.new.table c.ask.new.glyphs c.in_ok-count.count c.posed-question.result (posed_as c.ask.new.table c.ask.new.glyphs c.in_ok-count.count c.posed-question.result c.posed-question.ensures.query c.posed-question.ensures.families c.posed-question.ensures.table c.posed-question.ensures.glyphs) c.in_ok-count.ensures)
+    c.args.records.now _ c.args.hits.now (pass_from c.pass-b.result c.pass-b.new.ws c.pass-b.new.records c.pass-b.new.entries) c.pass-b.ensures
+    c.in_err-room.field-0.0 c.in_err-room.ensures)
 
-pub again-c-requires : goal.again-c-requires
-again-c-requires c = left_scratch c.args.s.now c.args.list.now c.args.fl.now c.args.q.now c.args.records.now c.no_entries-none.result c.args.hits.now c.ask-x.result c.ask-x.new.rows c.ask-x.ensures c.start-a.result c.start-a.new.ws c.start-a.ensures
-    (pass_from c.pass-b.result c.pass-b.new.ws c.pass-b.new.records c.pass-b.new.entries) c.pass-b.ensures
+pub again-requires : goal.again-requires
+again-requires c = left_scratch c.args.s.now c.args.list.now c.args.fl.now c.args.q.now c.posed-question.result c.in_ok-count.count c.in_ok-a.a c.start.new.ws
+    (asks_by c.args.s.now c.args.list.now c.args.fl.now c.args.q.now c.in_ok-in_size.field-0 c.in_ok-in_size.ensures c.in_ok-a.a c.start.new.ws c.in_ok-a.ensures c.ask.new.table c.ask.new.glyphs c.in_ok-count.count c.posed-question.result (posed_as c.ask.new.table c.ask.new.glyphs c.in_ok-count.count c.posed-question.result c.posed-question.ensures.query c.posed-question.ensures.families c.posed-question.ensures.table c.posed-question.ensures.glyphs) c.in_ok-count.ensures)
+    c.args.records.now _ c.args.hits.now (pass_from c.pass-b.result c.pass-b.new.ws c.pass-b.new.records c.pass-b.new.entries) c.pass-b.ensures
+
+pub returns-in_err-c : goal.returns-in_err-c
+returns-in_err-c c =
+    let e : c.from_residual-in_err-c.result ≡ Err c.in_err-c.field-0.0 = search rules in
+    rw e (again_refused c.args.s.now c.args.list.now c.args.fl.now c.args.q.now c.posed-question.result c.in_ok-count.count c.in_ok-a.a c.start.new.ws
+    (asks_by c.args.s.now c.args.list.now c.args.fl.now c.args.q.now c.in_ok-in_size.field-0 c.in_ok-in_size.ensures c.in_ok-a.a c.start.new.ws c.in_ok-a.ensures c.ask.new.table c.ask.new.glyphs c.in_ok-count.count c.posed-question.result (posed_as c.ask.new.table c.ask.new.glyphs c.in_ok-count.count c.posed-question.result c.posed-question.ensures.query c.posed-question.ensures.families c.posed-question.ensures.table c.posed-question.ensures.glyphs) c.in_ok-count.ensures)
+    c.args.records.now _ c.args.hits.now (pass_from c.pass-b.result c.pass-b.new.ws c.pass-b.new.records c.pass-b.new.entries) c.pass-b.ensures
+    c.in_ok-room.field-0 c.in_ok-room.ensures c.in_err-c.field-0.0 c.in_err-c.ensures.0)
 
 pub pass-d-requires : goal.pass-d-requires
-pass-d-requires c = next-sound c.args.s.now c.args.list.now c.args.fl.now c.args.q.now c.args.records.now c.no_entries-none.result c.args.hits.now c.ask-x.result c.ask-x.new.rows c.ask-x.ensures c.start-a.result c.start-a.new.ws c.start-a.ensures
-    (pass_from c.pass-b.result c.pass-b.new.ws c.pass-b.new.records c.pass-b.new.entries) c.pass-b.ensures
-    c.too_many-too.result c.too_many-too.ensures c.again-c.result (again_is c.pass-b.result (length c.args.s.now) _ _ c.too_many-too.result c.again-c.result c.pass-b.auto.records c.again-c.ensures.0) c.again-c.new.ws c.again-c.ensures.1
+pass-d-requires c = pass_sound c.args.s.now c.args.list.now c.args.fl.now c.args.q.now c.posed-question.result c.in_ok-count.count c.in_ok-a.a c.start.new.ws
+    (asks_by c.args.s.now c.args.list.now c.args.fl.now c.args.q.now c.in_ok-in_size.field-0 c.in_ok-in_size.ensures c.in_ok-a.a c.start.new.ws c.in_ok-a.ensures c.ask.new.table c.ask.new.glyphs c.in_ok-count.count c.posed-question.result (posed_as c.ask.new.table c.ask.new.glyphs c.in_ok-count.count c.posed-question.result c.posed-question.ensures.query c.posed-question.ensures.families c.posed-question.ensures.table c.posed-question.ensures.glyphs) c.in_ok-count.ensures)
+    c.args.records.now _ c.args.hits.now (pass_from c.pass-b.result c.pass-b.new.ws c.pass-b.new.records c.pass-b.new.entries) c.pass-b.ensures
+    c.in_ok-room.field-0 c.in_ok-room.ensures c.in_ok-c.c c.in_ok-c.ensures.0 c.again.new.ws c.in_ok-c.ensures.1
 
-pub progress-g-requires : goal.progress-g-requires
-progress-g-requires c = (
-  row_size c.args.fl.now c.args.q.now c.ask-x.result c.ask-x.new.rows c.ask-x.ensures,
-  few_sound c.args.s.now c.args.list.now c.args.fl.now c.args.q.now c.args.records.now c.no_entries-none.result c.args.hits.now c.ask-x.result c.ask-x.new.rows c.ask-x.ensures c.start-a.result c.start-a.new.ws c.start-a.ensures
-      (pass_from c.pass-b.result c.pass-b.new.ws c.pass-b.new.records c.pass-b.new.entries) c.pass-b.ensures
-      c.too_many-too.result c.too_many-too.ensures c.again-c.result (again_is c.pass-b.result (length c.args.s.now) _ _ c.too_many-too.result c.again-c.result c.pass-b.auto.records c.again-c.ensures.0) c.again-c.new.ws c.again-c.ensures.1
-      (pass_from c.pass-d.result c.pass-d.new.ws c.pass-d.new.records c.pass-d.new.entries) c.pass-d.ensures,
-)
+pub progress-from-requires : goal.progress-from-requires
+progress-from-requires c = progress_sound c.args.s.now c.args.list.now c.args.fl.now c.args.q.now c.posed-question.result c.in_ok-count.count c.in_ok-a.a c.start.new.ws
+    (asks_by c.args.s.now c.args.list.now c.args.fl.now c.args.q.now c.in_ok-in_size.field-0 c.in_ok-in_size.ensures c.in_ok-a.a c.start.new.ws c.in_ok-a.ensures c.ask.new.table c.ask.new.glyphs c.in_ok-count.count c.posed-question.result (posed_as c.ask.new.table c.ask.new.glyphs c.in_ok-count.count c.posed-question.result c.posed-question.ensures.query c.posed-question.ensures.families c.posed-question.ensures.table c.posed-question.ensures.glyphs) c.in_ok-count.ensures)
+    c.args.records.now _ c.args.hits.now (pass_from c.pass-b.result c.pass-b.new.ws c.pass-b.new.records c.pass-b.new.entries) c.pass-b.ensures
+    c.in_ok-room.field-0 c.in_ok-room.ensures c.in_ok-c.c c.in_ok-c.ensures.0 c.again.new.ws c.in_ok-c.ensures.1
+    (pass_from c.pass-d.result c.pass-d.new.ws c.pass-d.new.records c.pass-d.new.entries) c.pass-d.ensures
 
 pub search-e-requires : goal.search-e-requires
-search-e-requires c = search_sound c.args.s.now c.args.list.now c.args.fl.now c.args.q.now c.args.records.now c.no_entries-none.result c.args.hits.now c.ask-x.result c.ask-x.new.rows c.ask-x.ensures c.start-a.result c.start-a.new.ws c.start-a.ensures
-    (pass_from c.pass-b.result c.pass-b.new.ws c.pass-b.new.records c.pass-b.new.entries) c.pass-b.ensures
-    c.too_many-too.result c.too_many-too.ensures c.again-c.result (again_is c.pass-b.result (length c.args.s.now) _ _ c.too_many-too.result c.again-c.result c.pass-b.auto.records c.again-c.ensures.0) c.again-c.new.ws c.again-c.ensures.1
-    (pass_from c.pass-d.result c.pass-d.new.ws c.pass-d.new.records c.pass-d.new.entries) c.pass-d.ensures
-    c.progress-g.result c.progress-g.ensures
+search-e-requires c = rw c.progress-from.ensures (looking_sound c.args.s.now c.args.list.now c.args.fl.now c.args.q.now c.posed-question.result c.in_ok-count.count c.in_ok-a.a c.start.new.ws
+    (asks_by c.args.s.now c.args.list.now c.args.fl.now c.args.q.now c.in_ok-in_size.field-0 c.in_ok-in_size.ensures c.in_ok-a.a c.start.new.ws c.in_ok-a.ensures c.ask.new.table c.ask.new.glyphs c.in_ok-count.count c.posed-question.result (posed_as c.ask.new.table c.ask.new.glyphs c.in_ok-count.count c.posed-question.result c.posed-question.ensures.query c.posed-question.ensures.families c.posed-question.ensures.table c.posed-question.ensures.glyphs) c.in_ok-count.ensures)
+    c.args.records.now _ c.args.hits.now (pass_from c.pass-b.result c.pass-b.new.ws c.pass-b.new.records c.pass-b.new.entries) c.pass-b.ensures
+    c.in_ok-room.field-0 c.in_ok-room.ensures c.in_ok-c.c c.in_ok-c.ensures.0 c.again.new.ws c.in_ok-c.ensures.1
+    (pass_from c.pass-d.result c.pass-d.new.ws c.pass-d.new.records c.pass-d.new.entries) c.pass-d.ensures)
 
 pub returns : goal.returns
 returns c =
-    let y = finds_as c.args.s.now c.args.list.now c.args.fl.now c.args.q.now c.args.records.now c.no_entries-none.result c.args.hits.now c.ask-x.result c.ask-x.new.rows c.ask-x.ensures c.start-a.result c.start-a.new.ws c.start-a.ensures
-    (pass_from c.pass-b.result c.pass-b.new.ws c.pass-b.new.records c.pass-b.new.entries) c.pass-b.ensures
-    c.too_many-too.result c.too_many-too.ensures c.again-c.result (again_is c.pass-b.result (length c.args.s.now) _ _ c.too_many-too.result c.again-c.result c.pass-b.auto.records c.again-c.ensures.0) c.again-c.new.ws c.again-c.ensures.1
+    found_as c.args.s.now c.args.list.now c.args.fl.now c.args.q.now c.posed-question.result c.in_ok-count.count c.in_ok-a.a c.start.new.ws
+    (asks_by c.args.s.now c.args.list.now c.args.fl.now c.args.q.now c.in_ok-in_size.field-0 c.in_ok-in_size.ensures c.in_ok-a.a c.start.new.ws c.in_ok-a.ensures c.ask.new.table c.ask.new.glyphs c.in_ok-count.count c.posed-question.result (posed_as c.ask.new.table c.ask.new.glyphs c.in_ok-count.count c.posed-question.result c.posed-question.ensures.query c.posed-question.ensures.families c.posed-question.ensures.table c.posed-question.ensures.glyphs) c.in_ok-count.ensures)
+    c.args.records.now _ c.args.hits.now (pass_from c.pass-b.result c.pass-b.new.ws c.pass-b.new.records c.pass-b.new.entries) c.pass-b.ensures
+    c.in_ok-room.field-0 c.in_ok-room.ensures c.in_ok-c.c c.in_ok-c.ensures.0 c.again.new.ws c.in_ok-c.ensures.1
     (pass_from c.pass-d.result c.pass-d.new.ws c.pass-d.new.records c.pass-d.new.entries) c.pass-d.ensures
-    c.progress-g.result c.progress-g.ensures
-    (record { state = c.search-e.result; hits = c.search-e.new.hits }) c.search-e.ensures
-    in record { answer = c.answer.ensures ∙ y.0; records = y.1; hits = y.2 }
+    (record { state = c.search-e.result; hits = c.search-e.new.hits }) (rw c.progress-from.ensures at c.search-e.ensures)

@@ -1,8 +1,9 @@
-use Rattle.find_ask.proofs.Asking.{asking}
+use Rattle.std.proofs.Common.{arith}
+use Rattle.find_ask.proofs.Asking.{gathering_more, ask_few, ask_well}
 use Rattle.find_ask.proofs.ask_query.Goals as goal
 
-pub put_query-requires : goal.put_query-requires
-put_query-requires c = search asking
+pub loop-j-preserved : goal.loop-j-preserved
+loop-j-preserved c = gathering_more _ _ _ _ _ _ _ _ c.loop-j.invariant (omega (arith, ask_few c.args.q.now c.in_ok-count.count c.in_ok-count.ensures.0)) c.sought.ensures
 
-pub returns-in-WellFormed : goal.returns-in-WellFormed
-returns-in-WellFormed c = search asking
+pub returns : goal.returns
+returns c = ask_well c.args.q.now c.args.fl.now c.args.table.now c.args.families c.loop-j.glyphs c.in_ok-count.count c.load.new.glyphs c.in_ok-count.ensures.0 c.in_ok-count.ensures.1 c.loop-j.j c.loop-j-test.false c.loop-j.invariant
