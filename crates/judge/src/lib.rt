@@ -5,10 +5,10 @@
 ghost use Rattle.rules.specs.Calls.{JudgeCall};
 ghost use Rattle.read_turn.specs.Ready.{Scratch};
 
-use rules::Judging;
+use rules::{Judging, Refusal};
 
 // The pass, with a buffer and a scratch row; its bytes go to none.
-fn judged(none: &mut [u8], ws: &mut [u32], s: &[u8], list: &[u8]) -> Judging
+fn judged(none: &mut [u8], ws: &mut [u32], s: &[u8], list: &[u8]) -> Result<Judging, Refusal>
     requires { Scratch ws.old }
     ensures { JudgeCall s.now list.now result }
 {
@@ -17,7 +17,7 @@ fn judged(none: &mut [u8], ws: &mut [u32], s: &[u8], list: &[u8]) -> Judging
 }
 
 // The numbers of records, entries and pages, and the spelling's length; or a refusal, 1 to 11 or 16.
-pub fn judge(s: &[u8], list: &[u8]) -> Judging
+pub fn judge(s: &[u8], list: &[u8]) -> Result<Judging, Refusal>
     ensures { JudgeCall s.now list.now result }
 {
     let mut ws = read_scratch::room();

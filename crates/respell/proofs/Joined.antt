@@ -1,10 +1,11 @@
 -- The second pass as the code joins it to the first: what each call asks, and what is answered, in the form in which `search` applies it.
+use Rattle.std.specs.Prelude.{Result}
 use Prim.Native.Nat.{ℕ}
 use mathlib.Core.List.{List}
 use mathlib.Core.Path.{◌≡◌, refl, sym, subst, ◌∙◌}
 use lib.ListN.{length}
 use borrow.Author.Rules.{rules}
-use Rattle.rules.specs.declared.Respelling.{Respelling}
+use Rattle.rules.specs.declared.Refusal.{Refusal}
 use Rattle.rules.specs.Calls.{RespellCall}
 use Rattle.read_model.specs.declared.State.{State}
 use Rattle.read_turn.specs.Ready.{Scratch}
@@ -25,7 +26,7 @@ module _ (s list : List ℕ) (w : Writing) (ws₁ : List ℕ) where
         subst (λ (i : Writing). PassReady (length s) ws₂ 0 0 i.state) (sym e)
         (second_sound s list m.first m.scratch m.started m.buffer (pass_at w ws₁ m.left) m.runs m.bytes o (next_of w (length s) (length o)) refl ws₂ u)
 
-    pub answers : (v : Writing) (ws₃ o' : List ℕ) (g : Respelling) → Unmounted ws₁ ws₂ → x ≡ begin_at (next_of w (length s) (length o)) → Measured s list w ws₁ → Runs s list x ws₂ o v ws₃ o' → g ≡ respell_answer_of v
+    pub answers : (v : Writing) (ws₃ o' : List ℕ) (g : Result ℕ Refusal) → Unmounted ws₁ ws₂ → x ≡ begin_at (next_of w (length s) (length o)) → Measured s list w ws₁ → Runs s list x ws₂ o v ws₃ o' → g ≡ respell_answer_of v
         → RespellCall s list o g o'
     answers v ws₃ o' g u e m r k =
         let c : State = next_of w (length s) (length o) in

@@ -5,10 +5,16 @@
 ghost use Rattle.rules.specs.Calls.{RespellCall};
 ghost use Rattle.read_turn.specs.Ready.{Scratch};
 
-use rules::Respelling;
+use rules::Refusal;
 
 // Both passes; the first one's bytes go to none.
-fn both(none: &mut [u8], ws: &mut [u32], s: &[u8], list: &[u8], out: &mut [u8]) -> Respelling
+fn both(
+    none: &mut [u8],
+    ws: &mut [u32],
+    s: &[u8],
+    list: &[u8],
+    out: &mut [u8],
+) -> Result<usize, Refusal>
     requires { Scratch ws.old }
     ensures { RespellCall s.now list.now out.old result out.new }
 {
@@ -19,7 +25,7 @@ fn both(none: &mut [u8], ws: &mut [u32], s: &[u8], list: &[u8], out: &mut [u8]) 
 }
 
 // The length of the spelling, which stands at the start of the buffer; or a refusal, which leaves the buffer as it was.
-pub fn respell(s: &[u8], list: &[u8], out: &mut [u8]) -> Respelling
+pub fn respell(s: &[u8], list: &[u8], out: &mut [u8]) -> Result<usize, Refusal>
     ensures { RespellCall s.now list.now out.old result out.new }
 {
     let mut ws = read_scratch::room();

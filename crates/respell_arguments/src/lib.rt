@@ -4,68 +4,66 @@
 #![tactic(auto)]
 
 ghost use Rattle.std.specs.Prelude.{◌≡◌, ◌∷◌};
-ghost use Rattle.respell_model.specs.Sheet.{put_all};
+ghost use Rattle.respell_bytes.specs.Puts.{Puts};
 ghost use Rattle.respell_model.specs.Lines.{signed_arg, plain_arg, name_arg, args_from};
 
-use scan_arguments::One;
+use respell_bytes::Sheet;
 
 // A number that is moved up.
-fn put_signed_arg(out: &mut [u8], at: usize, n: u32) -> usize
-    ensures { record { bytes = out.new; at = result } ≡ put_all (signed_arg n) (record { bytes = out.old; at = at }) }
+#[tactic(auto, using(respell_model::proofs::Sheets::one_by_one))]
+fn put_signed_arg(sheet: &mut Sheet, n: u32)
+    ensures { Puts (signed_arg n) sheet.old sheet.new }
 {
-    let a = respell_bytes::put(out, at, 32);
-    respell_bytes::put_signed(out, a, n)
+    sheet.put(b' ');
+    sheet.put_signed(n);
 }
 
 // One that is not.
-pub fn put_plain_arg(out: &mut [u8], at: usize, n: u32) -> usize
-    ensures { record { bytes = out.new; at = result } ≡ put_all (plain_arg n) (record { bytes = out.old; at = at }) }
+#[tactic(auto, using(respell_model::proofs::Sheets::one_by_one))]
+pub fn put_plain_arg(sheet: &mut Sheet, n: u32)
+    ensures { Puts (plain_arg n) sheet.old sheet.new }
 {
-    let a = respell_bytes::put(out, at, 32);
-    respell_bytes::put_decimal(out, a, n)
+    sheet.put(b' ');
+    sheet.put_decimal(n);
 }
 
 // A name by its place and length in the stream.
-pub fn put_name_arg(out: &mut [u8], at: usize, s: &[u8], place: usize, len: usize) -> usize
-    ensures { record { bytes = out.new; at = result } ≡ put_all (name_arg s.now place len) (record { bytes = out.old; at = at }) }
+#[tactic(auto, using(respell_model::proofs::Sheets::one_by_one))]
+pub fn put_name_arg(sheet: &mut Sheet, s: &[u8], place: usize, len: usize)
+    ensures { Puts (name_arg s.now place len) sheet.old sheet.new }
 {
-    let a = respell_bytes::put(out, at, 32);
-    respell_bytes::put_all(out, a, name::name_at(s, place, len))
+    sheet.put(b' ');
+    sheet.put_all(name::name_at(s, place, len));
 }
 
 // n integers that stand in the stream from a place on.
-pub fn put_args(out: &mut [u8], at: usize, s: &[u8], from: usize, n: usize) -> usize
-    ensures { record { bytes = out.new; at = result } ≡ put_all (args_from n s.now from) (record { bytes = out.old; at = at }) }
+#[tactic(auto, using(respell_model::proofs::Sheets::one_by_one, crate::proofs::Arguments::arguments))]
+pub fn put_args(sheet: &mut Sheet, s: &[u8], from: usize, n: usize)
+    ensures { Puts (args_from n s.now from) sheet.old sheet.new }
 {
-    let mut x = at;
     let mut i = from;
-    let mut k = n;
-    while 0 < k {
-        match scan_arguments::one_at(s, i) {
-            One::Short => {
-                k = 0;
-            }
-            One::Read { a, pa: _, next } => {
-                x = put_signed_arg(out, x, a);
-                i = next;
-                k -= 1;
-            }
-        }
+    for _ in 0..n {
+        let Some(a) = scan_arguments::one_at(s, i) else {
+            return;
+        };
+        put_signed_arg(sheet, a.number);
+        i = a.next;
     }
-    x
 }
 
 // One letter and a number that is moved up.
-pub fn put_signed_line(out: &mut [u8], at: usize, letter: u8, n: u32) -> usize
-    ensures { record { bytes = out.new; at = result } ≡ put_all (letter ∷ signed_arg n) (record { bytes = out.old; at = at }) }
+#[tactic(auto, using(respell_model::proofs::Sheets::one_by_one))]
+pub fn put_signed_line(sheet: &mut Sheet, letter: u8, n: u32)
+    ensures { Puts (letter ∷ signed_arg n) sheet.old sheet.new }
 {
-    let a = respell_bytes::put(out, at, letter);
-    put_signed_arg(out, a, n)
+    sheet.put(letter);
+    put_signed_arg(sheet, n);
 }
 
-pub fn put_plain_line(out: &mut [u8], at: usize, letter: u8, n: u32) -> usize
-    ensures { record { bytes = out.new; at = result } ≡ put_all (letter ∷ plain_arg n) (record { bytes = out.old; at = at }) }
+#[tactic(auto, using(respell_model::proofs::Sheets::one_by_one))]
+pub fn put_plain_line(sheet: &mut Sheet, letter: u8, n: u32)
+    ensures { Puts (letter ∷ plain_arg n) sheet.old sheet.new }
 {
-    let a = respell_bytes::put(out, at, letter);
-    put_plain_arg(out, a, n)
+    sheet.put(letter);
+    put_plain_arg(sheet, n);
 }

@@ -6,18 +6,11 @@ use mathlib.Core.Path.{◌≡◌, refl, sym, ap, ◌∙◌}
 use borrow.Author.Tests.{lt-ltb, le-ltb}
 use lib.ListN.{length, take, drop, set, length-set, length-drop}
 use lib.Seq.{append_snoc, take_all, drop-set-lt, get_or-set_same}
-use Rattle.rules.specs.Bytes.{origin}
 use Rattle.rules.specs.House.{digits_of, decimal}
 use Rattle.laws_scan.proofs.Walk.{cons_at}
-use Rattle.respell_model.specs.Sheet.{put, put_all, small, signed_small}
+use Rattle.respell_model.specs.Sheet.{put_all, small}
 use Rattle.respell_model.proofs.Sheets.{small-most}
-use Rattle.respell_bytes.proofs.Putting.{sheet, putting}
-
-pub small_on : (n : ℕ) → n < 100000000 → n ≡ small n
-small_on n h = rw (lt-ltb n origin h)
-
-pub small_off : (n : ℕ) → 100000000 ≤ n → 0 ≡ small n
-small_off n h = rw (le-ltb n origin h)
+use Rattle.respell_bytes.proofs.Putting.{sheet}
 
 digits_one : (i m : ℕ) → m ≤ 9 → digits_of i m ≡ (48 + m) ∷ []
 unfolding digits_of
@@ -96,15 +89,4 @@ module _ (n : ℕ) (ds : List ℕ) (i m : ℕ) (v : Digits n ds i m) where
   pub digits-put : (o q : List ℕ) (at r : ℕ) → m ≤ 9 → sheet q r ≡ put_all (take (8 - i) (drop i (set ds i (48 + m)))) (sheet o at) → sheet q r ≡ put_all (decimal n) (sheet o at)
   digits-put o q at r h e = e ∙ ap (λ (t : List ℕ). put_all t (sheet o at)) (digits_last h)
 
--- ---- a number that is moved up
-
-module _ (n : ℕ) (o p q : List ℕ) (at a r : ℕ) where
-  pub signed_below : n < 100000000 → sheet p a ≡ put 45 (sheet o at) → sheet q r ≡ put_all (decimal (small (100000000 - n))) (sheet p a) → sheet q r ≡ put_all (signed_small n) (sheet o at)
-  unfolding signed_small put_all
-  signed_below h e f = f ∙ rw (lt-ltb n origin h, e)
-
-  pub signed_above : 100000000 ≤ n → sheet q r ≡ put_all (decimal (small (n - 100000000))) (sheet o at) → sheet q r ≡ put_all (signed_small n) (sheet o at)
-  unfolding signed_small
-  signed_above h f = f ∙ rw (le-ltb n origin h)
-
-pub ruleset writing = (small_on, small_off, digits-start, digits_place, digits_size, digits_room, digits_left, digits_less, digits-next, digits-put, signed_below, signed_above, putting)
+pub ruleset writing = (digits-start, digits_place, digits_size, digits_room, digits_left, digits_less, digits-next, digits-put)

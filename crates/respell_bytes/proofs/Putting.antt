@@ -1,56 +1,24 @@
 -- One byte and a text, written: in the form in which `search` applies it at a need.
-use Prim.Native.Nat.{ℕ, suc, ◌+◌, ◌-◌, ◌^◌, ◌≤◌, ◌<◌, min}
+use Prim.Native.Nat.{ℕ, suc, ◌+◌, ◌≤◌, ◌<◌, min}
 use native.Mathlib.Omega.{arith}
 use mathlib.Core.List.{List, [], ◌∷◌}
 use mathlib.Core.Path.{◌≡◌, refl, sym, ap, ◌∙◌}
-use borrow.Author.Rules.{rules}
-use borrow.Author.Tests.{lt-ltb, le-ltb, ltb-true, ltb-false}
+use borrow.Author.Tests.{ltb-true, ltb-false}
 use lib.Dec.{ltb}
-use lib.ListN.{length, drop, set, get_or, length-set, drop_of_length-le}
+use lib.ListN.{length, drop, get_or, drop_of_length-le}
 use lib.Seq.{set_out}
-use mir.Syntax.{w64}
-use mir.Val.{Fits}
 use Rattle.laws.proofs.Cases.{on}
 use Rattle.laws_scan.proofs.Walk.{cons_at}
 use Rattle.respell_bytes.specs.Onward.{onward}
 use Rattle.respell_model.specs.Sheet.{Sheet, further, put, put_all}
-use Rattle.respell_model.proofs.Sheets.{put_all_none, put_all_cons, put-length}
-
-pub further_on : (at : ℕ) → at < 16777217 → at + 1 ≡ further at
-further_on at h = rw (lt-ltb at 16777217 h)
-
-pub further_stays : (at : ℕ) → 16777217 ≤ at → at ≡ further at
-further_stays at h = rw (le-ltb at 16777217 h)
+use Rattle.respell_model.proofs.Sheets.{put_all_none, put_all_cons}
 
 abbrev pub sheet : List ℕ → ℕ → Sheet
 sheet o at = record { bytes = o; at = at }
 
-module _ (o : List ℕ) (at b r : ℕ) (e : r ≡ further at) where
-  pub put_in : at < length o → sheet (set o at b) r ≡ put b (sheet o at)
-  put_in h = rw e
-
-  pub put_out : length o ≤ at → sheet o r ≡ put b (sheet o at)
-  put_out h = rw (e, set_out o at b h)
-
--- what is put keeps the length
-pub put-kept : (o q : List ℕ) (at b r : ℕ) → sheet q r ≡ put b (sheet o at) → length q ≡ length o
-put-kept o q at b r e = ap (λ (p : Sheet). length p.bytes) e ∙ length-set o at b
-
-pub all_kept : (t o q : List ℕ) (at r : ℕ) → sheet q r ≡ put_all t (sheet o at) → length q ≡ length o
-all_kept t o q at r e = ap (λ (p : Sheet). length p.bytes) e ∙ put-length t (sheet o at)
-
 -- ---- behind the buffer
 
 module _ (n at : ℕ) where
-  pub onward_near : at < 16777217 → n < 16777217 - at → at + n ≡ onward n at
-  onward_near h k = rw (lt-ltb at 16777217 h) (let e : at + n ≡ min (at + n) 16777217 = omega arith in e)
-
-  pub onward_end : at < 16777217 → 16777217 - at ≤ n → 16777217 ≡ onward n at
-  onward_end h k = rw (lt-ltb at 16777217 h) (let e : 16777217 ≡ min (at + n) 16777217 = omega arith in e)
-
-  pub onward_stays : 16777217 ≤ at → at ≡ onward n at
-  onward_stays h = rw (le-ltb at 16777217 h)
-
   onward_in : at ≤ 16777217 → onward n at ≡ min (at + n) 16777217
   onward_in h =
       on (ltb at 16777217) (λ e. rw e)
@@ -81,26 +49,15 @@ text_out (b ∷ s) o at r h e =
 -- the bytes of s from i on are still to be written at a
 pub record Text (s o₀ : List ℕ) (at : ℕ) (o : List ℕ) (a i : ℕ) : Type 0 where
   pub whole : put_all s (sheet o₀ at) ≡ put_all (drop i s) (sheet o a)
-  pub size : length o ≡ length o₀
 
-pub text-start : (s o : List ℕ) (at : ℕ) → Text s o at o at 0
-text-start s o at = record { whole = refl; size = refl }
+pub text_start : (s o : List ℕ) (at : ℕ) → Text s o at o at 0
+text_start s o at = record { whole = refl }
 
 module _ (s o₀ : List ℕ) (at : ℕ) (o : List ℕ) (a i : ℕ) (v : Text s o₀ at o a i) where
-  pub text_size : length o ≡ length o₀
-  text_size = v.size
-
   pub text_more : (q : List ℕ) (r : ℕ) → i < length s → sheet q r ≡ put (get_or s i 0) (sheet o a) → Text s o₀ at q r (i + 1)
-  text_more q r l e = record {
-    whole = v.whole ∙ rw (cons_at s i l, put_all_cons (get_or s i 0) (drop (i + 1) s) (sheet o a), e);
-    size = put-kept o q a (get_or s i 0) r e ∙ v.size;
-  }
+  text_more q r l e = record { whole = v.whole ∙ rw (cons_at s i l, put_all_cons (get_or s i 0) (drop (i + 1) s) (sheet o a), e) }
 
   pub text_end : length s ≤ i → sheet o a ≡ put_all s (sheet o₀ at)
   text_end h = sym (v.whole ∙ rw (drop_of_length-le s h) (put_all_none (sheet o a)))
 
--- a place within is not the last number
-pub next_fits : (s : List ℕ) (i : ℕ) → i < length s → length s < 2 ^ 64 → Fits w64 (i + 1)
-next_fits s i h l = omega arith
-
-pub ruleset putting = (next_fits, onward_near, onward_end, onward_stays, text_out, further_on, further_stays, put_in, put_out, put-kept, all_kept, text-start, text_size, text_more, text_end, rules)
+pub ruleset texts = (text_out, text_start, text_more, text_end)

@@ -4,8 +4,16 @@
 
 ghost use Rattle.std.specs.Prelude.{◌≡◌, ◌<◌};
 ghost use Rattle.rules.specs.House.{decimal};
-ghost use Rattle.respell_model.specs.Sheet.{further, put, put_all, small, signed_small};
+ghost use Rattle.respell_model.specs.Sheet.{further, small, signed_small};
 ghost use Rattle.respell_bytes.specs.Onward.{onward};
+ghost use Rattle.respell_bytes.specs.Puts.{PutsByte, Puts};
+
+// A lent buffer, and the place of the next byte.
+#[derive(Drop)]
+pub struct Sheet<'a> {
+    pub bytes: &'a mut [u8],
+    pub at: usize,
+}
 
 fn further(at: usize) -> usize
     ensures { result ≡ further at }
@@ -13,46 +21,15 @@ fn further(at: usize) -> usize
     if at < 16_777_217 { at + 1 } else { at }
 }
 
-pub fn put(out: &mut [u8], at: usize, b: u8) -> usize
-    ensures { record { bytes = out.new; at = result } ≡ put b (record { bytes = out.old; at = at }) }
-{
-    if at < out.len() {
-        out[at] = b;
-        further(at)
-    } else {
-        further(at)
-    }
-}
-
 // The place behind n bytes that are not written.
 fn onward(at: usize, n: usize) -> usize
     ensures { result ≡ onward n at }
 {
     if at < 16_777_217 {
-        if n < 16_777_217 - at {
-            at + n
-        } else {
-            16_777_217
-        }
+        at + n.min(16_777_217 - at)
     } else {
         at
     }
-}
-
-// A text, such as a name that stands in the stream. Behind the buffer its length is all that counts.
-pub fn put_all(out: &mut [u8], at: usize, text: &[u8]) -> usize
-    ensures { record { bytes = out.new; at = result } ≡ put_all text.now (record { bytes = out.old; at = at }) }
-{
-    if out.len() <= at {
-        return onward(at, text.len());
-    }
-    let mut a = at;
-    let mut i = 0;
-    while i < text.len() {
-        a = put(out, a, text[i]);
-        i += 1;
-    }
-    a
 }
 
 fn small(n: u32) -> u32
@@ -61,30 +38,56 @@ fn small(n: u32) -> u32
     if n < 100_000_000 { n } else { 0 }
 }
 
-// Its digits, as few as can be.
-pub fn put_decimal(out: &mut [u8], at: usize, n: u32) -> usize
-    ensures { record { bytes = out.new; at = result } ≡ put_all (decimal (small n)) (record { bytes = out.old; at = at }) }
-{
-    let mut digits = [0u8; 8];
-    let mut i = 7;
-    let mut m = small(n);
-    while 9 < m {
-        digits[i] = 48 + ((m % 10) as u8);
-        m /= 10;
-        i -= 1;
+impl<'a> Sheet<'a> {
+    pub fn put(&mut self, b: u8)
+        ensures { PutsByte b self.old self.new }
+    {
+        if self.at < self.bytes.len() {
+            self.bytes[self.at] = b;
+        }
+        self.at = further(self.at);
     }
-    digits[i] = 48 + (m as u8);
-    put_all(out, at, &digits[i..])
-}
 
-// A number that is moved up by 100,000,000.
-pub fn put_signed(out: &mut [u8], at: usize, n: u32) -> usize
-    ensures { record { bytes = out.new; at = result } ≡ put_all (signed_small n) (record { bytes = out.old; at = at }) }
-{
-    if n < 100_000_000 {
-        let a = put(out, at, 45);
-        put_decimal(out, a, 100_000_000 - n)
-    } else {
-        put_decimal(out, at, n - 100_000_000)
+    // A text, such as a name that stands in the stream. Behind the buffer its length is all that counts.
+    #[tactic(auto, using(crate::proofs::Putting::texts))]
+    pub fn put_all(&mut self, text: &[u8])
+        ensures { Puts text.now self.old self.new }
+    {
+        if self.bytes.len() <= self.at {
+            self.at = onward(self.at, text.len());
+            return;
+        }
+        for b in text {
+            self.put(*b);
+        }
+    }
+
+    // Its digits, as few as can be.
+    pub fn put_decimal(&mut self, n: u32)
+        ensures { Puts (decimal (small n)) self.old self.new }
+    {
+        let mut digits = [0u8; 8];
+        let mut i = 7;
+        let mut m = small(n);
+        while 9 < m {
+            digits[i] = b'0' + ((m % 10) as u8);
+            m /= 10;
+            i -= 1;
+        }
+        digits[i] = b'0' + (m as u8);
+        self.put_all(&digits[i..]);
+    }
+
+    // A number that is moved up by 100,000,000.
+    #[tactic(auto, using(respell_model::proofs::Sheets::one_by_one), unfolding(respell_model::specs::Sheet::signed_small))]
+    pub fn put_signed(&mut self, n: u32)
+        ensures { Puts (signed_small n) self.old self.new }
+    {
+        if n < 100_000_000 {
+            self.put(b'-');
+            self.put_decimal(100_000_000 - n);
+        } else {
+            self.put_decimal(n - 100_000_000);
+        }
     }
 }

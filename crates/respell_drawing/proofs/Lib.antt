@@ -1,1 +1,1 @@
-pub mod Drawings
+mod Places

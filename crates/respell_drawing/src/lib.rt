@@ -3,71 +3,67 @@
 
 ghost use Rattle.std.specs.Prelude.{◌≡◌, ◌∷◌, ◌<◌, ◌≤◌, length};
 ghost use Rattle.read_model.specs.Fits.{CommandIn};
-ghost use Rattle.respell_model.specs.Sheet.{put_all};
+ghost use Rattle.respell_bytes.specs.Puts.{Puts};
 ghost use Rattle.respell_model.specs.Lines.{signed_arg, args_from, three_args, part_args, draw_count, behind_letter, line_of};
 ghost use Rattle.scan_letters.specs.Selected.{byte_of, drawing_of, parts_of};
 ghost use Rattle.respell_drawing.specs.Drawing.{Drawing};
 
+use respell_bytes::Sheet;
 use scan_command::Command;
 use scan_letters::Parts;
 
-fn put_three(out: &mut [u8], at: usize, a: u32, b: u32, c: u32) -> usize
-    ensures { record { bytes = out.new; at = result } ≡ put_all (three_args a b c) (record { bytes = out.old; at = at }) }
+#[tactic(auto, using(respell_model::proofs::Sheets::one_by_one))]
+fn put_three(sheet: &mut Sheet, a: u32, b: u32, c: u32)
+    ensures { Puts (three_args a b c) sheet.old sheet.new }
 {
-    let x = respell_arguments::put_plain_arg(out, at, a);
-    let y = respell_arguments::put_plain_arg(out, x, b);
-    respell_arguments::put_plain_arg(out, y, c)
+    respell_arguments::put_plain_arg(sheet, a);
+    respell_arguments::put_plain_arg(sheet, b);
+    respell_arguments::put_plain_arg(sheet, c);
 }
 
 // As many of the four components as a scheme has.
-fn put_parts(out: &mut [u8], at: usize, parts: Parts, a: u32, b: u32, c: u32, d: u32) -> usize
-    ensures { record { bytes = out.new; at = result } ≡ put_all (part_args parts a b c d) (record { bytes = out.old; at = at }) }
+#[tactic(auto, using(respell_model::proofs::Sheets::one_by_one))]
+fn put_parts(sheet: &mut Sheet, parts: Parts, a: u32, b: u32, c: u32, d: u32)
+    ensures { Puts (part_args parts a b c d) sheet.old sheet.new }
 {
     match parts {
-        Parts::Zero => at,
-        Parts::One => respell_arguments::put_plain_arg(out, at, a),
-        Parts::Three => put_three(out, at, a, b, c),
+        Parts::Zero | Parts::Unknown => {}
+        Parts::One => respell_arguments::put_plain_arg(sheet, a),
+        Parts::Three => put_three(sheet, a, b, c),
         Parts::Four => {
-            let x = respell_arguments::put_plain_arg(out, at, a);
-            put_three(out, x, b, c, d)
+            respell_arguments::put_plain_arg(sheet, a);
+            put_three(sheet, b, c, d);
         }
-        Parts::Unknown => at,
     }
 }
 
 // `m`, or `DF` behind its `D`.
-pub fn put_colour(
-    out: &mut [u8],
-    at: usize,
-    letter: u8,
-    scheme: u32,
-    a: u32,
-    b: u32,
-    c: u32,
-    d: u32,
-) -> usize
-    ensures { record { bytes = out.new; at = result } ≡ put_all (letter ∷ byte_of scheme ∷ part_args (parts_of (byte_of scheme)) a b c d) (record { bytes = out.old; at = at }) }
+#[tactic(auto, using(respell_model::proofs::Sheets::one_by_one))]
+pub fn put_colour(sheet: &mut Sheet, letter: u8, scheme: u32, a: u32, b: u32, c: u32, d: u32)
+    ensures { Puts (letter ∷ byte_of scheme ∷ part_args (parts_of (byte_of scheme)) a b c d) sheet.old sheet.new }
 {
     let k = scan_letters::byte_of(scheme);
-    let x = respell_bytes::put(out, at, letter);
-    let y = respell_bytes::put(out, x, k);
-    put_parts(out, y, scan_letters::parts_of(k), a, b, c, d)
+    sheet.put(letter);
+    sheet.put(k);
+    put_parts(sheet, scan_letters::parts_of(k), a, b, c, d);
 }
 
 // `DF`
-fn put_fill(out: &mut [u8], at: usize, scheme: u32, a: u32, b: u32, c: u32, d: u32) -> usize
-    ensures { record { bytes = out.new; at = result } ≡ put_all (68 ∷ 70 ∷ byte_of scheme ∷ part_args (parts_of (byte_of scheme)) a b c d) (record { bytes = out.old; at = at }) }
+#[tactic(auto, using(respell_model::proofs::Sheets::one_by_one))]
+fn put_fill(sheet: &mut Sheet, scheme: u32, a: u32, b: u32, c: u32, d: u32)
+    ensures { Puts (68 ∷ 70 ∷ byte_of scheme ∷ part_args (parts_of (byte_of scheme)) a b c d) sheet.old sheet.new }
 {
-    let x = respell_bytes::put(out, at, 68);
-    put_colour(out, x, 70, scheme, a, b, c, d)
+    sheet.put(b'D');
+    put_colour(sheet, b'F', scheme, a, b, c, d);
 }
 
 // `Df`
-fn put_gray(out: &mut [u8], at: usize, n: u32) -> usize
-    ensures { record { bytes = out.new; at = result } ≡ put_all (68 ∷ 102 ∷ signed_arg n) (record { bytes = out.old; at = at }) }
+#[tactic(auto, using(respell_model::proofs::Sheets::one_by_one))]
+fn put_gray(sheet: &mut Sheet, n: u32)
+    ensures { Puts (68 ∷ 102 ∷ signed_arg n) sheet.old sheet.new }
 {
-    let a = respell_bytes::put(out, at, 68);
-    respell_arguments::put_signed_line(out, a, 102, n)
+    sheet.put(b'D');
+    respell_arguments::put_signed_line(sheet, b'f', n);
 }
 
 // How many integers a drawing keeps: the dummy goes.
@@ -88,6 +84,7 @@ fn draw_count(drawing: scan_letters::Drawing, terms: u64) -> usize
 }
 
 // Behind the letter of a drawing that begins at a place.
+#[tactic(auto, using(crate::proofs::Places::places))]
 fn behind_letter(s: &[u8], at: usize) -> usize
     requires { (at < length s.now) × (length s.now ≤ 16777216) }
     ensures { result ≡ behind_letter s.now at }
@@ -96,26 +93,28 @@ fn behind_letter(s: &[u8], at: usize) -> usize
 }
 
 // `D` and the letter of a shape, with the integers that it keeps.
-fn put_shape(out: &mut [u8], at: usize, s: &[u8], place: usize, letter: u32, terms: u64) -> usize
+#[tactic(auto, using(respell_model::proofs::Sheets::one_by_one))]
+fn put_shape(sheet: &mut Sheet, s: &[u8], place: usize, letter: u32, terms: u64)
     requires { (place < length s.now) × (length s.now ≤ 16777216) × (terms < 65) }
-    ensures { record { bytes = out.new; at = result } ≡ put_all (68 ∷ byte_of letter ∷ args_from (draw_count (drawing_of (byte_of letter)) terms) s.now (behind_letter s.now place)) (record { bytes = out.old; at = at }) }
+    ensures { Puts (68 ∷ byte_of letter ∷ args_from (draw_count (drawing_of (byte_of letter)) terms) s.now (behind_letter s.now place)) sheet.old sheet.new }
 {
     let k = scan_letters::byte_of(letter);
-    let a = respell_bytes::put(out, at, 68);
-    let b = respell_bytes::put(out, a, k);
+    sheet.put(b'D');
+    sheet.put(k);
     let from = behind_letter(s, place);
     let n = draw_count(scan_letters::drawing_of(k), terms);
-    respell_arguments::put_args(out, b, s, from, n)
+    respell_arguments::put_args(sheet, s, from, n);
 }
 
 // The line of a drawing at a place of the stream, its newline aside. No other command comes here: the last arm is there for the match alone.
-pub fn put_drawing(out: &mut [u8], at: usize, s: &[u8], place: usize, c: Command) -> usize
+#[tactic(auto, using(respell_model::proofs::Sheets::one_by_one))]
+pub fn put_drawing(sheet: &mut Sheet, s: &[u8], place: usize, c: Command)
     requires { (place < length s.now) × (length s.now ≤ 16777216) × CommandIn place (length s.now) c × Drawing c }
-    ensures { record { bytes = out.new; at = result } ≡ put_all (line_of s.now place c) (record { bytes = out.old; at = at }) }
+    ensures { Puts (line_of s.now place c) sheet.old sheet.new }
 {
     match c {
-        Command::Draw { letter, terms, .. } => put_shape(out, at, s, place, letter, terms),
-        Command::Gray { number, .. } => put_gray(out, at, number),
+        Command::Draw { letter, terms, .. } => put_shape(sheet, s, place, letter, terms),
+        Command::Gray { number, .. } => put_gray(sheet, number),
         Command::Fill {
             scheme,
             a,
@@ -123,7 +122,7 @@ pub fn put_drawing(out: &mut [u8], at: usize, s: &[u8], place: usize, c: Command
             c,
             d,
             ..
-        } => put_fill(out, at, scheme, a, b, c, d),
-        _ => at,
+        } => put_fill(sheet, scheme, a, b, c, d),
+        _ => {}
     }
 }

@@ -1,44 +1,28 @@
--- The line of a command: the answer of each return, in the form in which `search` applies it.
-use Prim.Native.Nat.{ℕ}
-use mathlib.Core.List.{List, [], ◌∷◌}
+-- The commands that draw, and those that control, by their tags.
+use mathlib.Core.List.{[], ◌∷◌}
 use mathlib.Core.Logic.{inl, inr}
-use mathlib.Core.Path.{◌≡◌, ap, ◌∙◌}
-use borrow.Author.Rules.{rules}
+use mathlib.Core.Path.{sym, subst}
 use borrow.Enum.Known.{lives_at}
 use denote.Enum.Declared.{tag_of}
 use types.Run.{OneOf}
-use Rattle.rules.specs.House.{decimal, digits_of}
 use Rattle.scan_command.specs.declared.Command.{Command}
 use Rattle.scan_command.specs.contracts.Command.{enum, the_type}
-use Rattle.respell_model.specs.declared.Manner.{Manner}
-use Rattle.respell_model.specs.Sheet.{put_all}
-use Rattle.respell_model.specs.Lines.{plain_arg, line_of}
-use Rattle.respell_model.specs.Command.{manner_of}
-use Rattle.respell_bytes.proofs.Putting.{sheet, put-kept, all_kept}
-use Rattle.respell_arguments.proofs.Behind.{behind_all, put_one, put-nothing, with_newline, by_line}
-use Rattle.respell_drawing.proofs.Drawings.{is_drawing}
-use Rattle.respell_control.proofs.Controls.{is_control}
+use Rattle.respell_control.specs.Control.{Control, device, resolution, init, file, mount, plain, raw, stop}
+use Rattle.respell_drawing.specs.Drawing.{Drawing, shape, gray, fill}
 
-module _ (o q : List ℕ) (at r : ℕ) where
-  pub break_line : (p : List ℕ) (a : ℕ) → sheet p a ≡ put_all (110 ∷ plain_arg 0) (sheet o at) → sheet q r ≡ put_all (plain_arg 0) (sheet p a) → sheet q r ≡ put_all (110 ∷ 32 ∷ 48 ∷ 32 ∷ 48 ∷ []) (sheet o at)
-  unfolding decimal digits_of
-  break_line p a e f = behind_all (110 ∷ plain_arg 0) (plain_arg 0) (sheet o at) (sheet p a) (sheet q r) e f
+pub is_drawing : (c : Command) → OneOf (12 ∷ 13 ∷ 14 ∷ []) (tag_of the_type c) → Drawing c
+is_drawing c (inl e) = let v = lives_at enum c 12 e in subst Drawing (sym v.1) (shape v.0.0 v.0.1.0 v.0.1.1.0 v.0.1.1.1.0 v.0.1.1.1.1.0)
+is_drawing c (inr (inl e)) = let v = lives_at enum c 13 e in subst Drawing (sym v.1) (gray v.0.0 v.0.1.0)
+is_drawing c (inr (inr e)) = let v = lives_at enum c 14 e in subst Drawing (sym v.1) (fill v.0.0 v.0.1.0 v.0.1.1.0 v.0.1.1.1.0 v.0.1.1.1.1.0 v.0.1.1.1.1.1.0)
 
--- words, motions and what is refused have no line
-line_none : (s : List ℕ) (place : ℕ) (c : Command) → OneOf (2 ∷ 4 ∷ 5 ∷ 23 ∷ []) (tag_of the_type c) → [] ≡ line_of s place c
-line_none s place c (inl e) = rw (lives_at enum c 2 e).1
-line_none s place c (inr (inl e)) = rw (lives_at enum c 4 e).1
-line_none s place c (inr (inr (inl e))) = rw (lives_at enum c 5 e).1
-line_none s place c (inr (inr (inr e))) = rw (lives_at enum c 23 e).1
+pub is_control : (c : Command) → OneOf (15 ∷ 16 ∷ 17 ∷ 18 ∷ 19 ∷ 20 ∷ 21 ∷ 22 ∷ []) (tag_of the_type c) → Control c
+is_control c (inl e) = let v = lives_at enum c 15 e in subst Control (sym v.1) (device v.0.0 v.0.1.0 v.0.1.1.0)
+is_control c (inr (inl e)) = let v = lives_at enum c 16 e in subst Control (sym v.1) (resolution v.0.0 v.0.1.0)
+is_control c (inr (inr (inl e))) = let v = lives_at enum c 17 e in subst Control (sym v.1) (init v.0.0)
+is_control c (inr (inr (inr (inl e)))) = let v = lives_at enum c 18 e in subst Control (sym v.1) (file v.0.0 v.0.1.0 v.0.1.1.0)
+is_control c (inr (inr (inr (inr (inl e))))) = let v = lives_at enum c 19 e in subst Control (sym v.1) (mount v.0.0 v.0.1.0 v.0.1.1.0 v.0.1.1.1.0)
+is_control c (inr (inr (inr (inr (inr (inl e)))))) = let v = lives_at enum c 20 e in subst Control (sym v.1) (plain v.0.0 v.0.1.0)
+is_control c (inr (inr (inr (inr (inr (inr (inl e))))))) = let v = lives_at enum c 21 e in subst Control (sym v.1) (raw v.0.0)
+is_control c (inr (inr (inr (inr (inr (inr (inr e))))))) = let v = lives_at enum c 22 e in subst Control (sym v.1) (stop v.0.0)
 
-pub no_line : (s : List ℕ) (place : ℕ) (c : Command) (o : List ℕ) (at : ℕ) → OneOf (2 ∷ 4 ∷ 5 ∷ 23 ∷ []) (tag_of the_type c) → sheet o at ≡ put_all (line_of s place c) (sheet o at)
-no_line s place c o at e = put-nothing o at ∙ ap (λ (t : List ℕ). put_all t (sheet o at)) (line_none s place c e)
-
--- ---- how a command is written
-
-pub by_manner : (c j : Command) (r : Manner) → c ≡ j → r ≡ manner_of j → r ≡ manner_of c
-by_manner c j r g f = rw (g, f)
-
-pub ruleset managing = (by_manner, rules)
-
-pub ruleset lines = (break_line, no_line, by_line, is_drawing, is_control, put_one, with_newline, put-kept, all_kept, rules)
+pub ruleset kinds = (is_drawing, is_control)

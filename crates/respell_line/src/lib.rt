@@ -4,33 +4,27 @@
 
 ghost use Rattle.std.specs.Prelude.{◌≡◌, [], ◌∷◌, ◌++◌, ◌<◌, ◌≤◌, length};
 ghost use Rattle.read_model.specs.Fits.{CommandIn};
-ghost use Rattle.respell_model.specs.Sheet.{put_all};
+ghost use Rattle.respell_bytes.specs.Puts.{Puts};
 ghost use Rattle.respell_model.specs.Lines.{line_of};
 ghost use Rattle.respell_model.specs.Command.{manner_of};
 
+use respell_bytes::Sheet;
 use respell_model::Manner;
 use scan_command::Command;
 
-// `n 0 0`
-fn put_break(out: &mut [u8], at: usize) -> usize
-    ensures { record { bytes = out.new; at = result } ≡ put_all (110 ∷ 32 ∷ 48 ∷ 32 ∷ 48 ∷ []) (record { bytes = out.old; at = at }) }
-{
-    let a = respell_arguments::put_plain_line(out, at, 110, 0);
-    respell_arguments::put_plain_arg(out, a, 0)
-}
-
 // The line of a command at a place of the stream, its newline aside. A motion has none; a word is written glyph by glyph.
-fn put_command(out: &mut [u8], at: usize, s: &[u8], place: usize, c: Command) -> usize
+#[tactic(auto, using(respell_model::proofs::Sheets::one_by_one, crate::proofs::Lines::kinds))]
+fn put_command(sheet: &mut Sheet, s: &[u8], place: usize, c: Command)
     requires { (place < length s.now) × (length s.now ≤ 16777216) × CommandIn place (length s.now) c }
-    ensures { record { bytes = out.new; at = result } ≡ put_all (line_of s.now place c) (record { bytes = out.old; at = at }) }
+    ensures { Puts (line_of s.now place c) sheet.old sheet.new }
 {
     match c {
-        Command::Glyph { place: p, len, .. } => respell_glyph::put_glyph(out, at, s, p, len),
-        Command::Index { number, .. } => respell_arguments::put_signed_line(out, at, 78, number),
-        Command::Pair { place: p, .. } => respell_glyph::put_glyph(out, at, s, p, 1),
-        Command::Page { number, .. } => respell_arguments::put_signed_line(out, at, 112, number),
-        Command::Font { position, .. } => respell_arguments::put_plain_line(out, at, 102, position),
-        Command::Size { size, .. } => respell_arguments::put_plain_line(out, at, 115, size),
+        Command::Glyph { place: p, len, .. } => respell_glyph::put_glyph(sheet, s, p, len),
+        Command::Index { number, .. } => respell_arguments::put_signed_line(sheet, b'N', number),
+        Command::Pair { place: p, .. } => respell_glyph::put_glyph(sheet, s, p, 1),
+        Command::Page { number, .. } => respell_arguments::put_signed_line(sheet, b'p', number),
+        Command::Font { position, .. } => respell_arguments::put_plain_line(sheet, b'f', position),
+        Command::Size { size, .. } => respell_arguments::put_plain_line(sheet, b's', size),
         Command::Colour {
             scheme,
             a,
@@ -38,25 +32,25 @@ fn put_command(out: &mut [u8], at: usize, s: &[u8], place: usize, c: Command) ->
             c,
             d,
             ..
-        } => respell_drawing::put_colour(out, at, 109, scheme, a, b, c, d),
-        Command::Break { .. } => put_break(out, at),
-        Command::Space { .. } => respell_bytes::put(out, at, 119),
-        Command::Word { .. } | Command::To { .. } | Command::By { .. } | Command::Refused { .. } =>
-            { at }
+        } => respell_drawing::put_colour(sheet, b'm', scheme, a, b, c, d),
+        Command::Break { .. } => sheet.put_all(b"n 0 0"),
+        Command::Space { .. } => sheet.put(b'w'),
+        Command::Word { .. } | Command::To { .. } | Command::By { .. } => {}
         Command::Draw { .. } | Command::Gray { .. } | Command::Fill { .. } => {
-            respell_drawing::put_drawing(out, at, s, place, c)
+            respell_drawing::put_drawing(sheet, s, place, c)
         }
-        _ => respell_control::put_control(out, at, s, place, c),
+        _ => respell_control::put_control(sheet, s, place, c),
     }
 }
 
 // The same, with its newline.
-pub fn put_line(out: &mut [u8], at: usize, s: &[u8], place: usize, c: Command) -> usize
+#[tactic(auto, using(respell_model::proofs::Sheets::one_by_one))]
+pub fn put_line(sheet: &mut Sheet, s: &[u8], place: usize, c: Command)
     requires { (place < length s.now) × (length s.now ≤ 16777216) × CommandIn place (length s.now) c }
-    ensures { record { bytes = out.new; at = result } ≡ put_all (line_of s.now place c ++ 10 ∷ []) (record { bytes = out.old; at = at }) }
+    ensures { Puts (line_of s.now place c ++ 10 ∷ []) sheet.old sheet.new }
 {
-    let a = put_command(out, at, s, place, c);
-    respell_bytes::put(out, a, 10)
+    put_command(sheet, s, place, c);
+    sheet.put(b'\n');
 }
 
 // How a command is written.
@@ -92,6 +86,5 @@ pub fn manner(c: Command) -> Manner
         Command::Plain { .. } => Manner::Floating,
         Command::Raw { .. } => Manner::Anchored,
         Command::Stop { .. } => Manner::Anchored,
-        Command::Refused { .. } => Manner::Moving,
     }
 }

@@ -1,14 +1,14 @@
 -- What is written for a command is the house spelling of its acts, and behind it a reader is where the rules say.
 use Rattle.std.specs.Prelude.{if◌then◌else◌}
-use Prim.Native.Nat.{ℕ, zero, suc, ◌+◌, ◌*◌, ◌-◌, ◌<◌, ◌≤◌}
+use Prim.Native.Nat.{ℕ, zero, suc, ◌+◌, ◌*◌, ◌-◌, ◌<◌}
 use native.Mathlib.Omega.{arith}
 use mathlib.Core.Bool.{Bool, true, false}
 use mathlib.Core.List.{List, [], ◌∷◌, ◌++◌, append_assoc, append-nil}
 use mathlib.Core.Option.{Option, none, some}
 use mathlib.Core.Path.{◌≡◌, refl, sym, ap, ap₂, ◌∙◌}
-use lib.Dec.{leb, ltb, eqb}
+use lib.Dec.{ltb, eqb}
 use lib.ListN.{length, take, drop, get_or}
-use borrow.Author.Tests.{ltb-true, leb-true, le-leb}
+use borrow.Author.Tests.{ltb-true, le-leb}
 use Rattle.rules.specs.Bytes.{origin, most, near}
 use Rattle.rules.specs.Act.{Axis, across, down, line, arc, circle, solid_circle, ellipse, solid_ellipse, polygon, solid_polygon, spline, thickness, gray_fill, colour_fill, Act, glyph, index, to, by, page, font, size, colour, break, space, draw, device, resolution, init, file, mount, plain, raw, stop, Cmd, just, word, pair}
 use Rattle.rules.specs.Scan.{name_in}
@@ -91,11 +91,6 @@ is_gone (went e gs is) = true
 pub went-these : (e : Env) (x : Acts) (d : Env) (gs : List Glyph) (is : List Item) → perform e x ≡ went d gs is → x ≡ these (acts_in x)
 went-these e (no_acts n) d gs is h = no (ap is_gone h)
 went-these e (these xs) d gs is h = refl
-
--- ---- numbers
-
-near_some : (n : ℕ) → near n ≡ true → 0 < n
-near_some n h = let l : origin - most ≤ n = leb-true (origin - most) n (and_left (leb (origin - most) n) (leb n (origin + most)) h) in omega arith
 
 -- ---- motions
 
@@ -307,7 +302,7 @@ module _ (e : Env) (f unit : ℕ) (fs : List Font) (name s ws : List ℕ) (block
   word_spelled [] d p xs g q c nh nv i t r h = rw (← ap acts_in q) (refl, refl)
   word_spelled (b ∷ bs) d p xs g q c nh nv i t r h =
       go (width_of name b fs) r.1 (word_acts fs name far bs) q
-      (λ ys k m z. word_spelled bs (word_next s ws d) (record { h = d.h; v = d.v }) ys g k (carries_next e f unit d s ws c m) (moved-near d.h (far_at s ws d) m) nv i t r.2 z)
+      (λ ys k m z. word_spelled bs (word_next s ws d) (record { h = d.h; v = d.v }) ys g k (carries_next e f unit d s ws c) (moved-near d.h (far_at s ws d) m) nv i t r.2 z)
     where
       go : (o : Option ℕ) → entry_at ws block b ≡ entry_for o → (x : Acts) → byte_acts b far o x ≡ these xs
           → ((ys : List Act) → x ≡ these ys → may_move d.h (far_at s ws d) ≡ true → Ends g (run (here e (word_next s ws d)) ys) → Worded (length bs) (word_next s ws d) (record { h = d.h; v = d.v }) ys)
@@ -353,7 +348,6 @@ module _ (w : Widths) (find : List ℕ → ℕ) (s : List ℕ) (y : (i : ℕ) �
         size = refl;
         quantum = refl;
         unitwidth = v.unit;
-        placed = near_some e.h v.near_h;
       })
       v.near_h v.near_v refl refl (mounts_of w find s y ms ws u e v (at + a) (at + l) (word n bs) g t f i) k))
 

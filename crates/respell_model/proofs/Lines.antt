@@ -1,5 +1,5 @@
 -- The line that the code makes of a scanned command is the house spelling of its act.
-use Rattle.std.specs.Prelude.{if◌then◌else◌}
+use Rattle.std.specs.Prelude.{Some, if◌then◌else◌}
 use Prim.Native.Nat.{ℕ, zero, suc, ◌+◌, ◌*◌, ◌-◌, ◌≤◌, ◌<◌}
 use native.Mathlib.Omega.{arith}
 use mathlib.Core.Bool.{true, false, not, ◌&&◌}
@@ -31,13 +31,12 @@ use Rattle.scan_command.proofs.Shift.{shifted, integers_shift, many_shift}
 use Rattle.scan_letters.specs.Selected.{byte_of, parts_of}
 use Rattle.scan_letters.specs.declared.Parts.{Parts}
 use Rattle.scan_letters.specs.declared.Parts.TheVariants as P
-use Rattle.scan_arguments.specs.declared.One.TheVariants as A
 use Rattle.scan_lex.specs.At.{run_end}
 use Rattle.scan_integer.specs.At.{cut, integer_at}
 use Rattle.scan_arguments.specs.At.{one_at}
 use Rattle.scan_arguments.specs.Parts.{present_at}
 use Rattle.scan_arguments.proofs.Chains.{behind, ints, then_at, ints_more, one_is}
-use Rattle.scan_arguments.proofs.Pairs.{many, many_none, many_more}
+use Rattle.scan_arguments.proofs.Many.{many, many_none, many_more}
 use Rattle.respell_model.proofs.Sheets.{signed-near}
 use Rattle.respell_model.specs.Sheet.{small}
 use Rattle.respell_model.specs.Lines.{signed_arg, plain_arg, args_from, three_args, part_args, behind_letter, behind_word, text_at, raw_arg, line_of}
@@ -77,7 +76,7 @@ module _ (s : List ℕ) where
   unfolding args_from integer_at
   said_more p go f = at_int (integer (drop (behind s p) s)) refl
     where
-      more : (a : Num) (q : ℕ) (x : Nums) → one_at s p ≡ A.Read (cut (moved a)) (behind s p) q → Said s q x → Said s p (with_num a (behind s p) x)
+      more : (a : Num) (q : ℕ) (x : Nums) → one_at s p ≡ Some (record { number = cut (moved a); place = behind s p; next = q }) → Said s q x → Said s p (with_num a (behind s p) x)
       more a q short e h = tt
       more a q (nums ns ks l t) e h = rw (e, h)
 

@@ -1,5 +1,5 @@
 -- A pass of the rewriter goes as the reader's does, and writes the house spelling of what it reads.
-use Rattle.std.specs.Prelude.{if◌then◌else◌}
+use Rattle.std.specs.Prelude.{Result, Ok, Err, if◌then◌else◌}
 use Prim.Native.Nat.{ℕ, zero, suc, ◌+◌, ◌<◌, ◌≤◌}
 use native.Mathlib.Omega.{arith}
 use mathlib.Core.Bool.{true, false}
@@ -10,11 +10,12 @@ use lib.ListN.{length, drop, get_or}
 use borrow.Author.Tests.{eq-eqb, ne_eqb}
 use Rattle.rules.specs.declared.Record.{Record}
 use Rattle.rules.specs.declared.Entry.{Entry}
+use Rattle.rules.specs.declared.Refusal.{Refusal}
 use Rattle.rules.specs.Bytes.{is, is_white, one_line}
 use Rattle.rules.specs.Act.{Cmd, just, word, pair}
 use Rattle.rules.specs.Scan.{Scan, got, bad, command, bare}
 use Rattle.rules.specs.Widths.{Widths}
-use Rattle.rules.specs.State.{Spot, Env, Step, refused, went, acts, perform}
+use Rattle.rules.specs.State.{Spot, Env, Glyph, Item, Step, refused, went, acts, perform}
 use Rattle.rules.specs.Record.{GlyphRow, ItemRow, Answer, refuse, answer, glyph_rows, item_rows, after_rows, follow}
 use Rattle.rules.specs.House.{house, played, spell_all}
 use Rattle.scan_command.specs.declared.Command.{Command}
@@ -35,7 +36,7 @@ use Rattle.read_model.proofs.Passes.{Going, Room, room_next, after_none, reads_a
 use Rattle.respell_model.specs.declared.Mark.{Mark}
 use Rattle.respell_model.specs.Sheet.{Sheet, put_all}
 use Rattle.respell_model.specs.Command.{manner_of, pen_h, pen_v, spelled_at}
-use Rattle.respell_model.specs.Passes.{sheet_at, sheet_on, mark_on, bytes_of, mark_of, RespellPass, respell_step_of, respell_pass_for}
+use Rattle.respell_model.specs.Passes.{sheet_at, sheet_on, mark_on, bytes_on, mark_after, bytes_of, mark_of, RespellPass, respell_step_of, respell_pass_for}
 use Rattle.respell_model.proofs.Sheets.{put_all-append, put-length, put_at_most}
 use Rattle.respell_model.proofs.Lines.{line_is as act_line_is}
 use Rattle.respell_model.proofs.House.{LineIs, command_on}
@@ -77,26 +78,32 @@ module _ (s ws : List ℕ) (st : State) (out : List ℕ) (m : Mark) where
       if_both (λ (x : Sheet). x.at ≤ 16777217) (eqb next.refusal 0) _ (sheet_at out m)
       (put_at_most (spelled_at s ws st.unitwidth st.env st.at next.env.h next.env.v m.h m.v c) (sheet_at out m) h) h
 
+  mark_after_at : (c : Result Command Refusal) → m.at ≤ 16777217 → (mark_after s ws st c out m).at ≤ 16777217
+  mark_after_at (Ok c) h = sheet_at_lem (turn_on s ws st (Ok c)).state c h
+  mark_after_at (Err r) h = h
+
   mark_at : m.at ≤ 16777217 → (mark_of s ws st out m).at ≤ 16777217
   unfolding mark_of
   mark_at h =
-      let c : Command = command_at s st.at in
-      let rest : Mark = mark_on s ws st (turn_on s ws st c).state c out m in
+      let rest : Mark = mark_after s ws st (command_at s st.at) out m in
       if_both (λ (x : Mark). x.at ≤ 16777217) (is_white (get_or s st.at 0)) m (if is "#" (get_or s st.at 0) then m else rest) h
-      (if_both (λ (x : Mark). x.at ≤ 16777217) (is "#" (get_or s st.at 0)) m rest h (sheet_at_lem (turn_on s ws st c).state c h))
+      (if_both (λ (x : Mark). x.at ≤ 16777217) (is "#" (get_or s st.at 0)) m rest h (mark_after_at (command_at s st.at) h))
 
   sheet_length : (next : State) (c : Command) → length (sheet_on s ws st next c out m).bytes ≡ length out
   sheet_length next c =
       if_both (λ (x : Sheet). length x.bytes ≡ length out) (eqb next.refusal 0) _ (sheet_at out m)
       (put-length (spelled_at s ws st.unitwidth st.env st.at next.env.h next.env.v m.h m.v c) (sheet_at out m)) refl
 
+  scanned-length : (c : Result Command Refusal) → length (bytes_on s ws st c out m) ≡ length out
+  scanned-length (Ok c) = sheet_length (turn_on s ws st (Ok c)).state c
+  scanned-length (Err r) = refl
+
   bytes-length : length (bytes_of s ws st out m) ≡ length out
   unfolding bytes_of
   bytes-length =
-      let c : Command = command_at s st.at in
-      let rest : List ℕ = (sheet_on s ws st (turn_on s ws st c).state c out m).bytes in
+      let rest : List ℕ = bytes_on s ws st (command_at s st.at) out m in
       if_both (λ (x : List ℕ). length x ≡ length out) (is_white (get_or s st.at 0)) out (if is "#" (get_or s st.at 0) then out else rest) refl
-      (if_both (λ (x : List ℕ). length x ≡ length out) (is "#" (get_or s st.at 0)) out rest refl (sheet_length (turn_on s ws st c).state c))
+      (if_both (λ (x : List ℕ). length x ≡ length out) (is "#" (get_or s st.at 0)) out rest refl (scanned-length (command_at s st.at)))
 
 module _ (find : List ℕ → ℕ) (s : List ℕ) where
   pub pass_at_most : (f : ℕ) (p : RespellPass) → p.mark.at ≤ 16777217 → (respell_pass_for f find s p).mark.at ≤ 16777217
@@ -223,61 +230,72 @@ module _ (w : Widths) (find : List ℕ → ℕ) (s : List ℕ) (y : (i : ℕ) �
             go (word n bs) z = tt
             go (pair n b) z = tt
 
-        -- the command, and what was done
         abbrev here : Command
         here = command_here p.state c a l'
 
-        abbrev did : Did
-        did = did_here s p.scratch p.state c a l'
+        -- did was done
+        module _ (did : Did) where
+          -- what is written
+          text : List ℕ
+          text = spelled_at s p.scratch p.state.unitwidth p.state.env p.state.at did.env.h did.env.v p.mark.h p.mark.v here
 
-        -- what is written
-        text : List ℕ
-        text = spelled_at s p.scratch p.state.unitwidth p.state.env p.state.at did.env.h did.env.v p.mark.h p.mark.v here
+          abbrev pen : Spot
+          pen = record { h = pen_h s p.scratch p.state.unitwidth p.state.env did.env.h p.mark.h (manner_of here); v = pen_v p.scratch p.state.unitwidth p.state.env did.env.v p.mark.v (manner_of here) }
 
-        abbrev pen : Spot
-        pen = record { h = pen_h s p.scratch p.state.unitwidth p.state.env did.env.h p.mark.h (manner_of here); v = pen_v p.scratch p.state.unitwidth p.state.env did.env.v p.mark.v (manner_of here) }
+          module _ (i j : ℕ) (t : (turn_on s p.scratch p.state (Ok here)).state ≡ gone_to (length s) p.state (p.state.at + l') i j did.env) where
+            bytes_are : bytes_of s p.scratch p.state p.bytes p.mark ≡ (put_all text (sheet_at p.bytes p.mark)).bytes
+            unfolding bytes_of text
+            bytes_are =
+                rw (e, k, at_here.found)
+                (ap (λ (n : State). (sheet_on s p.scratch p.state n here p.bytes p.mark).bytes) t
+                ∙ ap (λ (d : Sheet). d.bytes) (sheet_on_lem s p.scratch p.state p.bytes p.mark here (length s) (p.state.at + l') i j did.env g.clear))
 
-        module _ (i j : ℕ) (t : (turn_on s p.scratch p.state here).state ≡ gone_to (length s) p.state (p.state.at + l') i j did.env) where
-          bytes_are : bytes_of s p.scratch p.state p.bytes p.mark ≡ (put_all text (sheet_at p.bytes p.mark)).bytes
-          unfolding bytes_of text
-          bytes_are = rw (e, k, at_here.found, t) (ap (λ (d : Sheet). d.bytes) (sheet_on_lem s p.scratch p.state p.bytes p.mark here (length s) (p.state.at + l') i j did.env g.clear))
+            mark_is : mark_of s p.scratch p.state p.bytes p.mark ≡ record { at = (put_all text (sheet_at p.bytes p.mark)).at; h = pen.h; v = pen.v }
+            unfolding mark_of text
+            mark_is =
+                rw (e, k, at_here.found)
+                (ap (λ (n : State). mark_on s p.scratch p.state n here p.bytes p.mark) t
+                ∙ mark_on_lem s p.scratch p.state p.bytes p.mark here (length s) (p.state.at + l') i j did.env g.clear)
 
-          mark_is : mark_of s p.scratch p.state p.bytes p.mark ≡ record { at = (put_all text (sheet_at p.bytes p.mark)).at; h = pen.h; v = pen.v }
-          unfolding mark_of text
-          mark_is = rw (e, k, at_here.found, t) (mark_on_lem s p.scratch p.state p.bytes p.mark here (length s) (p.state.at + l') i j did.env g.clear)
+          went_on : (d : Env) (gs : List Glyph) (ys : List Item) → perform (env_of p.state.env ms) (acts w (env_of p.state.env ms) c) ≡ went d gs ys → did_here s p.scratch p.state c a l' ≡ Ok did
+              → Agrees s p.scratch (mounts_after_cmd c ms) p.state.at (p.state.at + a) l' (went d gs ys) (Ok did) → Written ms p (respell_pass_for (suc f) find s p)
+          unfolding text
+          went_on d gs ys z b t =
+              let at : ℕ = p.state.at + l' in
+              let rs : List GlyphRow = glyph_rows (p.state.at + a) gs in
+              let xs : List ItemRow = item_rows p.state.at l' ys in
+              let m : List (List ℕ) = mounts_after_cmd c ms in
+              let rest : Answer = follow w (env_of did.env m) (from s at) in
+              let cs : List Cmd = bare (from s at) in
+              let i : ℕ = p.state.records + length rs in
+              let j : ℕ = p.state.entries + length xs in
+              let x : Went w find s ms p.scratch p.state c a l' did rs xs = went_here w find s ms p.scratch p.state c a l' at_here v r d gs ys z did b t in
+              let turned : (turn_on s p.scratch p.state (Ok here)).state ≡ gone_to (length s) p.state at i j did.env = ap (λ (y : Turned). y.state) (at_here.turned ∙ sym at_here.turn) ∙ x.state in
+              let spells : spells_from ms p.state p.mark ≡ text ++ spell_all (house (env_of did.env m) pen (played w (env_of did.env m) cs)) =
+              rw (from_got s p.state.at h e k c a l' q)
+              (command_on w find s y ms p.scratch p.state.unitwidth p.state.env v p.state.at l' a c at_here.good at_here.stands line_is d gs ys did z t.0 (pen_of p.mark) cs) in
+              onward f more ms m p (respell_step_of find s p) rs xs text
+              (rw x.state (record { within = at_here.within; left = refl; clear = g.clear }))
+              (rw x.state x.live)
+              (rw x.state (omega (arith, g.left, at_here.some, at_here.within)))
+              (rw x.state x.reads)
+              (rw x.state (room_next (length s) rs xs rest p.state (gone_to (length s) p.state at i j did.env) refl refl refl refl (omega (arith, x.few_records)) (omega (arith, x.few_entries)) (rw x.reads at r)))
+              ok
+              (rw (bytes_are i j turned, mark_is i j turned))
+              (rw (x.state, mark_is i j turned) spells)
+              (respell_pass_for (suc f) find s p) one_turn
 
-        goes_on : (x : Step) → perform (env_of p.state.env ms) (acts w (env_of p.state.env ms) c) ≡ x → Agrees s p.scratch (mounts_after_cmd c ms) p.state.at (p.state.at + a) l' x did
-            → Written ms p (respell_pass_for (suc f) find s p)
-        unfolding text
-        goes_on (refused n) z t = absurd (rw (at_here.follows, z) at ok)
-        goes_on (went d gs ys) z t =
-            let at : ℕ = p.state.at + l' in
-            let rs : List GlyphRow = glyph_rows (p.state.at + a) gs in
-            let xs : List ItemRow = item_rows p.state.at l' ys in
-            let m : List (List ℕ) = mounts_after_cmd c ms in
-            let rest : Answer = follow w (env_of did.env m) (from s at) in
-            let cs : List Cmd = bare (from s at) in
-            let i : ℕ = p.state.records + length rs in
-            let j : ℕ = p.state.entries + length xs in
-            let x : Went w find s ms p.scratch p.state c a l' rs xs = went_here w find s ms p.scratch p.state c a l' at_here v r d gs ys z t in
-            let turned : (turn_on s p.scratch p.state here).state ≡ gone_to (length s) p.state at i j did.env = ap (λ (y : Turned). y.state) (at_here.turned ∙ sym at_here.turn) ∙ x.state in
-            let spells : spells_from ms p.state p.mark ≡ text ++ spell_all (house (env_of did.env m) pen (played w (env_of did.env m) cs)) =
-            rw (from_got s p.state.at h e k c a l' q)
-            (command_on w find s y ms p.scratch p.state.unitwidth p.state.env v p.state.at l' a c at_here.good at_here.stands line_is d gs ys did z t.1 (pen_of p.mark) cs) in
-            onward f more ms m p (respell_step_of find s p) rs xs text
-            (rw x.state (record { within = at_here.within; left = refl; clear = g.clear }))
-            (rw x.state x.live)
-            (rw x.state (omega (arith, g.left, at_here.some, at_here.within)))
-            (rw x.state x.reads)
-            (rw x.state (room_next (length s) rs xs rest p.state (gone_to (length s) p.state at i j did.env) refl refl refl refl (omega (arith, x.few_records)) (omega (arith, x.few_entries)) (rw x.reads at r)))
-            ok
-            (rw (bytes_are i j turned, mark_is i j turned))
-            (rw (x.state, mark_is i j turned) spells)
-            (respell_pass_for (suc f) find s p) one_turn
+        goes_on : (x : Step) → perform (env_of p.state.env ms) (acts w (env_of p.state.env ms) c) ≡ x → (d : Result Did Refusal) → did_here s p.scratch p.state c a l' ≡ d
+            → Agrees s p.scratch (mounts_after_cmd c ms) p.state.at (p.state.at + a) l' x d → Written ms p (respell_pass_for (suc f) find s p)
+        goes_on (refused n) z d b t = absurd (rw (at_here.follows, z) at ok)
+        goes_on (went d gs ys) z (Err y) b t = absurd t
+        goes_on (went d gs ys) z (Ok did) b t = went_on did d gs ys z b t
 
         one_command : Written ms p (respell_pass_for (suc f) find s p)
         unfolding did_here
-        one_command = goes_on (perform (env_of p.state.env ms) (acts w (env_of p.state.env ms) c)) refl (did_agrees w find s y ms p.scratch p.state.unitwidth p.state.env v p.state.at l' a c at_here.good at_here.stands)
+        one_command =
+            goes_on (perform (env_of p.state.env ms) (acts w (env_of p.state.env ms) c)) refl (did_here s p.scratch p.state c a l') refl
+            (did_agrees w find s y ms p.scratch p.state.unitwidth p.state.env v p.state.at l' a c at_here.good at_here.stands)
 
       commands_on : (x : Scan) → command (get_or s p.state.at 0) (drop (p.state.at + 1) s) ≡ x → Written ms p (respell_pass_for (suc f) find s p)
       commands_on (bad n j) q = refuses n j q

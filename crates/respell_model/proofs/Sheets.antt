@@ -30,6 +30,9 @@ pub put_all_cons : (b : ℕ) (t : List ℕ) (p : Sheet) → put_all (b ∷ t) p 
 unfolding put_all
 put_all_cons b t p = refl
 
+-- what a function writes, piece by piece
+pub ruleset one_by_one = (put_all_none, put_all_cons, put_all-append)
+
 -- ---- the buffer's length, and the place
 
 pub put-length : (t : List ℕ) (p : Sheet) → length (put_all t p).bytes ≡ length p.bytes

@@ -63,7 +63,6 @@ manner_of (C.Mount i p l n) = M.Floating
 manner_of (C.Plain b n) = M.Floating
 manner_of (C.Raw n) = M.Anchored
 manner_of (C.Stop n) = M.Anchored
-manner_of (C.Refused i p) = M.Moving
 
 -- the word of a command, in the environment before it
 abbrev pub word_for : List ℕ → ℕ → Environment → ℕ → ℕ → ℕ → Word

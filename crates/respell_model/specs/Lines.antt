@@ -1,5 +1,5 @@
 -- The line of one command in the house spelling, as the code makes it from the command and the stream. In the code's own steps.
-use Rattle.std.specs.Prelude.{ℕ, zero, suc, ◌+◌, ◌*◌, ◌-◌, ◌&&◌, not, List, [], ◌∷◌, ◌++◌, ltb, eqb, take, drop, get_or, if◌then◌else◌}
+use Rattle.std.specs.Prelude.{ℕ, zero, suc, ◌+◌, ◌*◌, ◌-◌, ◌&&◌, not, List, [], ◌∷◌, ◌++◌, ltb, eqb, take, drop, get_or, Option, Some, None, if◌then◌else◌}
 use Rattle.rules.specs.Bytes.{bytes, is, is_space, is_not_white}
 use Rattle.rules.specs.House.{decimal}
 use Rattle.scan_command.specs.declared.Command.{Command}
@@ -11,8 +11,7 @@ use Rattle.scan_letters.specs.declared.Parts.{Parts}
 use Rattle.scan_letters.specs.declared.Parts.TheVariants as P
 use Rattle.scan_letters.specs.declared.Control.{Control}
 use Rattle.scan_letters.specs.declared.Control.TheVariants as X
-use Rattle.scan_arguments.specs.declared.One.{One}
-use Rattle.scan_arguments.specs.declared.One.TheVariants as A
+use Rattle.scan_arguments.specs.declared.Argument.{Argument}
 use Rattle.scan_lex.specs.At.{run_end}
 use Rattle.scan_arguments.specs.At.{one_at}
 use Rattle.respell_model.specs.Sheet.{small, signed_small}
@@ -32,9 +31,9 @@ abbrev pub name_arg : List ℕ → ℕ → ℕ → List ℕ
 name_arg s p l = 32 ∷ take l (drop p s)
 
 -- n integers that stand in the stream from a place on
-abbrev pub arg_then : (ℕ → List ℕ) → One → List ℕ
-arg_then go A.Short = []
-arg_then go (A.Read a p q) = signed_arg a ++ go q
+abbrev pub arg_then : (ℕ → List ℕ) → Option Argument → List ℕ
+arg_then go None = []
+arg_then go (Some a) = signed_arg a.number ++ go a.next
 
 unfoldable pub args_from : ℕ → List ℕ → ℕ → List ℕ
 args_from zero s p = []
@@ -123,4 +122,3 @@ line_of s at (C.Mount i p l n) = bytes "x f" ++ (plain_arg i ++ name_arg s p l)
 line_of s at (C.Plain b n) = 120 ∷ 32 ∷ byte_of b ∷ args_from (control_count (control_of (byte_of b))) s (behind_word s at)
 line_of s at (C.Raw n) = bytes "x X" ++ raw_arg s (text_at s at) n
 line_of s at (C.Stop n) = bytes "x s"
-line_of s at (C.Refused i p) = []

@@ -1,5 +1,6 @@
 -- One turn of the rewriter, and a whole pass, with what it leaves in the buffer, in the code's own steps.
-use Rattle.std.specs.Prelude.{ℕ, zero, suc, List, eqb, get_or, if◌then◌else◌}
+use Rattle.std.specs.Prelude.{ℕ, zero, suc, List, eqb, get_or, Result, Ok, Err, if◌then◌else◌}
+use Rattle.rules.specs.declared.Refusal.{Refusal}
 use Rattle.rules.specs.Bytes.{is, is_white}
 use Rattle.scan_command.specs.declared.Command.{Command}
 use Rattle.scan_command.specs.View.{command_at}
@@ -28,19 +29,29 @@ mark_on s ws st next c out m = record {
   v = if eqb next.refusal 0 then pen_v ws st.unitwidth st.env next.env.v m.v (manner_of c) else m.v;
 }
 
+-- ---- what was scanned: a command, or nothing
+
+abbrev pub bytes_on : List ℕ → List ℕ → State → Result Command Refusal → List ℕ → Mark → List ℕ
+bytes_on s ws st (Ok c) out m = (sheet_on s ws st (turn_on s ws st (Ok c)).state c out m).bytes
+bytes_on s ws st (Err r) out m = out
+
+abbrev pub mark_after : List ℕ → List ℕ → State → Result Command Refusal → List ℕ → Mark → Mark
+mark_after s ws st (Ok c) out m = mark_on s ws st (turn_on s ws st (Ok c)).state c out m
+mark_after s ws st (Err r) out m = m
+
 -- ---- one turn: whitespace, a comment, or a command
 
 unfoldable pub bytes_of : List ℕ → List ℕ → State → List ℕ → Mark → List ℕ
 bytes_of s ws st out m =
     if is_white (get_or s st.at 0) then out else
     if is "#" (get_or s st.at 0) then out else
-    (sheet_on s ws st (turn_on s ws st (command_at s st.at)).state (command_at s st.at) out m).bytes
+    bytes_on s ws st (command_at s st.at) out m
 
 unfoldable pub mark_of : List ℕ → List ℕ → State → List ℕ → Mark → Mark
 mark_of s ws st out m =
     if is_white (get_or s st.at 0) then m else
     if is "#" (get_or s st.at 0) then m else
-    mark_on s ws st (turn_on s ws st (command_at s st.at)).state (command_at s st.at) out m
+    mark_after s ws st (command_at s st.at) out m
 
 -- ---- a pass
 

@@ -13,6 +13,13 @@ pub struct Mark {
     pub v: u32,
 }
 
+// Where a reader of the spelling is, moved up.
+#[derive(Clone, Copy)]
+pub struct Pen {
+    pub h: u32,
+    pub v: u32,
+}
+
 // How a command is written: behind `H` and `V` to the position before it, or to the one behind it (two digits); as it stands; as it
 // stands, and v is 0 behind it; not at all; or as a word, glyph by glyph.
 #[derive(Clone, Copy)]

@@ -22,6 +22,7 @@ fn skipped(n: usize, st: State, next: usize, mark: Mark) -> Writing
 }
 
 // Whitespace, a comment, or one command, at the state's place.
+#[inline(always)]
 fn turn_at(
     out: &mut [u8],
     ws: &mut [u32],
@@ -42,6 +43,7 @@ fn turn_at(
 }
 
 // A turn where the reader stands: the struct is taken apart.
+#[inline(always)]
 fn turn(out: &mut [u8], ws: &mut [u32], reader: Reader, list: &[u8], st: State, m: Mark) -> Writing
     requires { (reader.at ≡ st.at) × Scratch ws.old × Ready (length reader.stream.now) st }
     ensures { record { state = result.state; mark = result.mark; scratch = ws.new; bytes = out.new } ≡ respell_step_of (find_in list.now st.fonts ws.old) reader.entry.stream.now (record { state = st; mark = m; scratch = ws.old; bytes = out.old }) }

@@ -8,7 +8,7 @@ ghost use Rattle.respell_twice.specs.Respell.{begin_at, held_back, next_of, resp
 
 use read_model::State;
 use respell_model::{Mark, Writing};
-use rules::Respelling;
+use rules::Refusal;
 
 // At the start of the buffer, and of the page.
 pub fn begin(state: State) -> Writing
@@ -47,17 +47,16 @@ pub fn again(ws: &mut [u32], w: Writing, n: usize, room: usize) -> Writing
 }
 
 // The answer where the last pass ended at w.
-pub fn answer(w: Writing) -> Respelling
+pub fn answer(w: Writing) -> Result<usize, Refusal>
     ensures { result ≡ respell_answer_of w }
 {
     let st = w.state;
     let m = w.mark;
-    if st.refusal == 0 {
-        Respelling::Accepted { len: m.at }
-    } else {
-        Respelling::Refused {
+    if st.refusal != 0 {
+        return Err(Refusal {
             number: st.refusal,
             offset: st.at,
-        }
+        });
     }
+    Ok(m.at)
 }

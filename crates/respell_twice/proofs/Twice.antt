@@ -1,5 +1,5 @@
 -- Two passes of the rewriter answer what the rules answer: what the second one asks, and what is answered at the end.
-use Rattle.std.specs.Prelude.{if◌then◌else◌}
+use Rattle.std.specs.Prelude.{Result, Ok, if◌then◌else◌}
 use Prim.Native.Nat.{ℕ, ◌<◌, ◌≤◌, min}
 use native.Mathlib.Omega.{arith}
 use mathlib.Core.Bool.{true, false}
@@ -9,7 +9,7 @@ use mathlib.Core.Path.{◌≡◌, sym, ap, subst, ◌∙◌}
 use lib.Dec.{eqb}
 use lib.ListN.{length}
 use borrow.Author.Tests.{ne_eqb, lt-ltb, le-ltb, ltb-true, ltb-false}
-use Rattle.rules.specs.declared.Respelling.TheVariants as S
+use Rattle.rules.specs.declared.Refusal.{Refusal}
 use Rattle.rules.specs.State.{Env}
 use Rattle.rules.specs.Widths.{Widths, sound, width_list}
 use Rattle.rules.specs.Record.{GlyphRow, ItemRow, Answer, refuse, answer, over}
@@ -208,8 +208,8 @@ module _ (s list : List ℕ) (a : State) (ws₁ : List ℕ) (h : Started s list 
 
         goes_spells : Answered (respell_into (length o₂) s list)
         goes_spells =
-            subst Answered (sym o.answered)
-            (rw clear (ap (λ (i : Sheet). S.Accepted i.at) sheet), ap (λ (i : Sheet). i.bytes) sheet)
+            let counted : Sheet → Result ℕ Refusal = λ i. Ok i.at in
+            subst Answered (sym o.answered) (rw clear (ap counted sheet), ap (λ (i : Sheet). i.bytes) sheet)
 
       case_spells : Next → Answered (respell_into (length o₂) s list)
       case_spells (inl o) = halt_spells o

@@ -1,10 +1,9 @@
 -- What a rewriting does around its passes: where the writing begins, whether the spelling has room, the state in which the second
 -- pass begins, the answer. In the code's own steps.
-use Rattle.std.specs.Prelude.{ℕ, Bool, ◌||◌, ◌&&◌, List, ◌≡◌, ltb, eqb, if◌then◌else◌}
-use Rattle.rules.specs.declared.Respelling.{Respelling}
-use Rattle.rules.specs.declared.Respelling.TheVariants as S
+use Rattle.std.specs.Prelude.{ℕ, Bool, ◌||◌, ◌&&◌, List, ◌≡◌, ltb, eqb, Result, Ok, if◌then◌else◌}
+use Rattle.rules.specs.declared.Refusal.{Refusal}
 use Rattle.rules.specs.Bytes.{origin}
-use Rattle.rules.specs.Answers.{stream_most}
+use Rattle.rules.specs.Answers.{stream_most, asked, and_then}
 use Rattle.read_model.specs.declared.State.{State}
 use Rattle.read_turn.specs.Ready.{find_in}
 use Rattle.read_setup.specs.Setup.{refused_at, again_of, Started, AreBytes}
@@ -46,5 +45,5 @@ abbrev pub next_of : Writing → ℕ → ℕ → State
 next_of w n room = held_back (again_of w.state n w.state.records w.state.entries 0) w.mark.at room
 
 -- the answer, where the last pass ended at w
-abbrev pub respell_answer_of : Writing → Respelling
-respell_answer_of w = if eqb w.state.refusal 0 then S.Accepted w.mark.at else S.Refused w.state.refusal w.state.at
+abbrev pub respell_answer_of : Writing → Result ℕ Refusal
+respell_answer_of w = and_then (asked (eqb w.state.refusal 0) w.state.refusal w.state.at) (λ x. Ok w.mark.at)

@@ -1,10 +1,10 @@
--- A word, glyph by glyph: in the form in which `search` applies it.
+-- A word, glyph by glyph.
+use Rattle.std.specs.Prelude.{IsSome}
 use Prim.Native.Nat.{ℕ, zero, suc, ◌+◌, ◌-◌, ◌≤◌, ◌<◌}
 use native.Mathlib.Omega.{arith}
 use mathlib.Core.List.{List, [], ◌∷◌, ◌++◌, append_assoc}
 use mathlib.Core.Path.{◌≡◌, refl, sym, ap, ◌∙◌}
-use borrow.Author.Rules.{rules}
-use lib.ListN.{length, get_or}
+use lib.ListN.{get_or}
 use Rattle.read_model.specs.declared.Environment.{Environment}
 use Rattle.read_model.specs.declared.Word.{Word}
 use Rattle.read_model.specs.Words.{word_next, word_here, word_end}
@@ -13,24 +13,11 @@ use Rattle.read_word.specs.declared.Spelt.{Spelt}
 use Rattle.read_word.specs.Bounds.{Small, Tracked, WordFits, Goes}
 use Rattle.read_word.specs.Parts.{spelt_of}
 use Rattle.read_word.proofs.Spelling.{goes_on, goes-fits}
-use Rattle.respell_model.specs.declared.Mark.{Mark}
-use Rattle.respell_model.specs.Sheet.{Sheet, put, put_all}
+use Rattle.respell_model.specs.declared.Pen.{Pen}
+use Rattle.respell_model.specs.Sheet.{Sheet, put_all}
 use Rattle.respell_model.specs.Command.{moves_to, word_lines, word_pen_h, word_pen_v, word_for}
 use Rattle.respell_model.proofs.Sheets.{put_all-append}
-use Rattle.respell_bytes.proofs.Putting.{sheet, put-kept, all_kept}
-use Rattle.respell_arguments.proofs.Behind.{behind_one, only_one}
-use Rattle.respell_glyph.proofs.Glyphs.{moves_then}
-
--- ---- one glyph
-
-module _ (o q : List ℕ) (at r b : ℕ) where
-  pub byte_is : (p p₂ p₃ : List ℕ) (x y z : ℕ) → sheet p x ≡ put 99 (sheet o at) → sheet p₂ y ≡ put 32 (sheet p x) → sheet p₃ z ≡ put b (sheet p₂ y) → sheet q r ≡ put 10 (sheet p₃ z)
-      → sheet q r ≡ put_all (99 ∷ 32 ∷ b ∷ 10 ∷ []) (sheet o at)
-  byte_is p p₂ p₃ x y z e f g k =
-      behind_one 99 (32 ∷ b ∷ 10 ∷ []) (sheet o at) (sheet p x) (sheet q r) e
-      (behind_one 32 (b ∷ 10 ∷ []) (sheet p x) (sheet p₂ y) (sheet q r) f
-      (behind_one b (10 ∷ []) (sheet p₂ y) (sheet p₃ z) (sheet q r) g
-      (only_one 10 (sheet p₃ z) (sheet q r) k)))
+use Rattle.respell_bytes.proofs.Putting.{sheet}
 
 -- ---- the rest of a word
 
@@ -58,21 +45,17 @@ down-next s ws zero pv d = refl
 down-next s ws (suc n) pv d = refl
 
 -- d is what is left of the word w; a reader is where m says
-pub record Lettering (s ws o₀ : List ℕ) (m₀ : Mark) (w : Word) (o : List ℕ) (m : Mark) (d : Word) : Type 0 where
-  pub whole : put_all (word_lines w.left s ws m₀.h m₀.v w) (sheet o₀ m₀.at) ≡ put_all (word_lines d.left s ws m.h m.v d) (sheet o m.at)
+pub record Lettering (s ws o₀ : List ℕ) (at₀ : ℕ) (m₀ : Pen) (w : Word) (o : List ℕ) (at : ℕ) (m : Pen) (d : Word) : Type 0 where
+  pub whole : put_all (word_lines w.left s ws m₀.h m₀.v w) (sheet o₀ at₀) ≡ put_all (word_lines d.left s ws m.h m.v d) (sheet o at)
   pub across : word_pen_h w.left s ws m₀.h w ≡ word_pen_h d.left s ws m.h d
   pub down : word_pen_v w.left m₀.v w ≡ word_pen_v d.left m.v d
   pub fits : WordFits d
-  pub ends : 0 < word_end d.left s ws d
-  pub size : length o ≡ length o₀
+  pub ends : IsSome (word_end d.left s ws d)
 
-pub letters-start : (s ws o : List ℕ) (m : Mark) (w : Word) → WordFits w → 0 < word_end w.left s ws w → Lettering s ws o m w o m w
-letters-start s ws o m w f e = record { whole = refl; across = refl; down = refl; fits = f; ends = e; size = refl }
+pub letters-start : (s ws o : List ℕ) (at : ℕ) (m : Pen) (w : Word) → WordFits w → IsSome (word_end w.left s ws w) → Lettering s ws o at m w o at m w
+letters-start s ws o at m w f e = record { whole = refl; across = refl; down = refl; fits = f; ends = e }
 
-module _ (s ws o₀ : List ℕ) (m₀ : Mark) (w : Word) (o : List ℕ) (m : Mark) (d : Word) (v : Lettering s ws o₀ m₀ w o m d) where
-  pub letters_size : length o ≡ length o₀
-  letters_size = v.size
-
+module _ (s ws o₀ : List ℕ) (at₀ : ℕ) (m₀ : Pen) (w : Word) (o : List ℕ) (at : ℕ) (m : Pen) (d : Word) (v : Lettering s ws o₀ at₀ m₀ w o at m d) where
   pub letters_fit : WordFits d
   letters_fit = v.fits
 
@@ -83,26 +66,22 @@ module _ (s ws o₀ : List ℕ) (m₀ : Mark) (w : Word) (o : List ℕ) (m : Mar
     some : d.left ≡ suc (d.left - 1)
     some = omega arith
 
-    next : Word
-    next = word_next s ws d
-
-    pub letters-next : (p : List ℕ) (n : Mark) (b : ℕ) → b ≡ get_or s d.at 0 → sheet p n.at ≡ put_all (moves_to m.h m.v d.h d.v ++ 99 ∷ 32 ∷ b ∷ 10 ∷ []) (sheet o m.at) → n.h ≡ d.h → n.v ≡ d.v → Lettering s ws o₀ m₀ w p n x.next
-    letters-next p n b e f a k =
+    pub letters-next : (p : List ℕ) (r b : ℕ) → b ≡ get_or s d.at 0 → sheet p r ≡ put_all (moves_to m.h m.v d.h d.v ++ 99 ∷ 32 ∷ b ∷ 10 ∷ []) (sheet o at) → Lettering s ws o₀ at₀ m₀ w p r (record { h = d.h; v = d.v }) x.next
+    letters-next p r b e f =
         rw g record {
-          whole = v.whole ∙ ap (λ (j : ℕ). put_all (word_lines j s ws m.h m.v d) (sheet o m.at)) some ∙ lines_next s ws (d.left - 1) m.h m.v d (sheet o m.at) ∙ rw (← e, ← f, ← a, ← k);
-          across = v.across ∙ ap (λ (j : ℕ). word_pen_h j s ws m.h d) some ∙ across-next s ws (d.left - 1) m.h d ∙ rw (← a);
-          down = v.down ∙ ap (λ (j : ℕ). word_pen_v j m.v d) some ∙ down-next s ws (d.left - 1) m.v d ∙ rw (← k);
+          whole = v.whole ∙ ap (λ (j : ℕ). put_all (word_lines j s ws m.h m.v d) (sheet o at)) some ∙ lines_next s ws (d.left - 1) m.h m.v d (sheet o at) ∙ rw (← e, ← f);
+          across = v.across ∙ ap (λ (j : ℕ). word_pen_h j s ws m.h d) some ∙ across-next s ws (d.left - 1) m.h d;
+          down = v.down ∙ ap (λ (j : ℕ). word_pen_v j m.v d) some ∙ down-next s ws (d.left - 1) m.v d;
           fits = goes-fits s ws d v.fits (letters_go l);
           ends = (goes_on s ws d l v.ends).1;
-          size = all_kept (moves_to m.h m.v d.h d.v ++ 99 ∷ 32 ∷ b ∷ 10 ∷ []) o p m.at n.at f ∙ v.size;
         }
 
   module _ (h : d.left ≤ 0) where
     none : d.left ≡ 0
     none = omega arith
 
-    pub letters_sheet : sheet o m.at ≡ put_all (word_lines w.left s ws m₀.h m₀.v w) (sheet o₀ m₀.at)
-    letters_sheet = sym (v.whole ∙ ap (λ (j : ℕ). put_all (word_lines j s ws m.h m.v d) (sheet o m.at)) none ∙ lines_none s ws m.h m.v d (sheet o m.at))
+    pub letters_sheet : sheet o at ≡ put_all (word_lines w.left s ws m₀.h m₀.v w) (sheet o₀ at₀)
+    letters_sheet = sym (v.whole ∙ ap (λ (j : ℕ). put_all (word_lines j s ws m.h m.v d) (sheet o at)) none ∙ lines_none s ws m.h m.v d (sheet o at))
 
     pub letters-across : m.h ≡ word_pen_h w.left s ws m₀.h w
     letters-across = sym (v.across ∙ ap (λ (j : ℕ). word_pen_h j s ws m.h d) none ∙ across_none s ws m.h d)
@@ -113,7 +92,7 @@ module _ (s ws o₀ : List ℕ) (m₀ : Mark) (w : Word) (o : List ℕ) (m : Mar
 pub letters_less : (s ws : List ℕ) (d : Word) (x : Spelt) → 0 < d.left → x ≡ spelt_of s ws d → x.next.left < d.left
 letters_less s ws d x l g = rw g (omega arith)
 
-pub ruleset words = (byte_is, moves_then, letters-start, letters_size, letters_fit, letters_go, letters-next, letters_sheet, letters-across, letters-down, letters_less, put-kept, all_kept, rules)
+pub ruleset words = (letters-start, letters_fit, letters_go, letters-next, letters_sheet, letters-across, letters-down, letters_less)
 
 -- ---- a word that begins
 
@@ -127,12 +106,12 @@ module _ (s ws : List ℕ) (e : Environment) (u t p q b : ℕ) (w : Word) (g : b
   here : w ≡ word_for ws u e t p q
   here = l ∙ ap (λ (x : ℕ). word_here e u t (q - p) p x) g
 
-  pub from_ends : 0 < word_end (q - p) s ws (word_for ws u e t p q) → 0 < word_end w.left s ws w
+  pub from_ends : IsSome (word_end (q - p) s ws (word_for ws u e t p q)) → IsSome (word_end w.left s ws w)
   from_ends k = rw here k
 
-  module _ (m n : Mark) where
-    pub from_sheet : (o o₂ : List ℕ) → sheet o₂ n.at ≡ put_all (word_lines w.left s ws m.h m.v w) (sheet o m.at) → sheet o₂ n.at ≡ put_all (word_lines (q - p) s ws m.h m.v (word_for ws u e t p q)) (sheet o m.at)
-    from_sheet o o₂ r = rw here at r
+  module _ (m n : Pen) where
+    pub from_sheet : (o o₂ : List ℕ) (at r : ℕ) → sheet o₂ r ≡ put_all (word_lines w.left s ws m.h m.v w) (sheet o at) → sheet o₂ r ≡ put_all (word_lines (q - p) s ws m.h m.v (word_for ws u e t p q)) (sheet o at)
+    from_sheet o o₂ at r k = rw here at k
 
     pub from_across : n.h ≡ word_pen_h w.left s ws m.h w → n.h ≡ word_pen_h (q - p) s ws m.h (word_for ws u e t p q)
     from_across r = rw here at r
@@ -140,4 +119,4 @@ module _ (s ws : List ℕ) (e : Environment) (u t p q b : ℕ) (w : Word) (g : b
     pub from_down : n.v ≡ word_pen_v w.left m.v w → n.v ≡ word_pen_v (q - p) m.v (word_for ws u e t p q)
     from_down r = rw here at r
 
-pub ruleset beginning = (word_room, block_small, from_ends, from_sheet, from_across, from_down, all_kept, rules)
+pub ruleset beginning = (word_room, block_small, from_ends, from_sheet, from_across, from_down)

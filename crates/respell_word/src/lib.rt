@@ -1,53 +1,56 @@
 // A word in the house spelling (document 01, "House spelling"): glyph by glyph, each with `H` and `V` before it where they differ.
 #![tactic(auto)]
 
-ghost use Rattle.std.specs.Prelude.{◌≡◌, [], ◌∷◌, ◌++◌, ◌-◌, ◌<◌, ◌≤◌};
+ghost use Rattle.std.specs.Prelude.{◌≡◌, [], ◌∷◌, ◌++◌, ◌-◌, ◌≤◌, IsSome};
 ghost use Rattle.read_model.specs.Words.{word_end};
 ghost use Rattle.read_environment.specs.Bounds.{Fits};
 ghost use Rattle.read_word.specs.Bounds.{Small, Tracked, WordFits};
-ghost use Rattle.respell_model.specs.Sheet.{put_all};
+ghost use Rattle.respell_bytes.specs.Puts.{Puts};
 ghost use Rattle.respell_model.specs.Command.{moves_to, word_lines, word_pen_h, word_pen_v, word_for};
 
 use read_model::{Environment, Word};
-use respell_model::Mark;
+use respell_bytes::Sheet;
+use respell_model::Pen;
 
 // A glyph of one byte.
-fn put_byte(out: &mut [u8], at: usize, b: u8) -> usize
-    ensures { record { bytes = out.new; at = result } ≡ put_all (99 ∷ 32 ∷ b ∷ 10 ∷ []) (record { bytes = out.old; at = at }) }
+#[tactic(auto, using(respell_model::proofs::Sheets::one_by_one))]
+fn put_byte(sheet: &mut Sheet, b: u8)
+    ensures { Puts (99 ∷ 32 ∷ b ∷ 10 ∷ []) sheet.old sheet.new }
 {
-    let x = respell_bytes::put(out, at, 99);
-    let y = respell_bytes::put(out, x, 32);
-    let z = respell_bytes::put(out, y, b);
-    respell_bytes::put(out, z, 10)
+    sheet.put_all(&[b'c', b' ', b, b'\n']);
 }
 
 // The same, with `H` and `V` before it.
-fn put_letter(out: &mut [u8], m: Mark, b: u8, h: u32, v: u32) -> Mark
-    ensures { (record { bytes = out.new; at = result.at } ≡ put_all (moves_to m.h m.v h v ++ 99 ∷ 32 ∷ b ∷ 10 ∷ []) (record { bytes = out.old; at = m.at })) × (result.h ≡ h) × (result.v ≡ v) }
+#[tactic(auto, using(respell_model::proofs::Sheets::one_by_one))]
+fn put_letter(sheet: &mut Sheet, from: Pen, to: Pen, b: u8)
+    ensures { Puts (moves_to from.h from.v to.h to.v ++ 99 ∷ 32 ∷ b ∷ 10 ∷ []) sheet.old sheet.new }
 {
-    let a = respell_glyph::put_moves(out, m, h, v);
-    let at = put_byte(out, a, b);
-    Mark { at, h, v }
+    respell_glyph::put_moves(sheet, from, to);
+    put_byte(sheet, b);
 }
 
 // A word, glyph by glyph.
-fn put_word(out: &mut [u8], s: &[u8], ws: &[u32], from: Mark, w: Word) -> Mark
-    requires { WordFits w × Small ws.now × (0 < word_end w.left s.now ws.now w) }
-    ensures { (record { bytes = out.new; at = result.at } ≡ put_all (word_lines w.left s.now ws.now from.h from.v w) (record { bytes = out.old; at = from.at })) × (result.h ≡ word_pen_h w.left s.now ws.now from.h w) × (result.v ≡ word_pen_v w.left from.v w) }
+#[tactic(auto, using(crate::proofs::Words::words))]
+fn put_word(sheet: &mut Sheet, s: &[u8], ws: &[u32], from: Pen, w: Word) -> Pen
+    requires { WordFits w × Small ws.now × IsSome (word_end w.left s.now ws.now w) }
+    ensures { Puts (word_lines w.left s.now ws.now from.h from.v w) sheet.old sheet.new × (result.h ≡ word_pen_h w.left s.now ws.now from.h w) × (result.v ≡ word_pen_v w.left from.v w) }
 {
     let mut d = w;
-    let mut m = from;
+    let mut pen = from;
     while 0 < d.left {
-        m = put_letter(out, m, scan_lex::byte_at(s, d.at), d.h, d.v);
+        let to = Pen { h: d.h, v: d.v };
+        put_letter(sheet, pen, to, scan_lex::byte_at(s, d.at));
+        pen = to;
         let x = read_word::word_step(s, ws, d);
         d = x.next;
     }
-    m
+    pen
 }
 
 // A word of the stream from place to end, spelt with the environment before it.
+#[tactic(auto, using(crate::proofs::Words::beginning))]
 pub fn put_word_from(
-    out: &mut [u8],
+    sheet: &mut Sheet,
     s: &[u8],
     ws: &[u32],
     e: Environment,
@@ -55,13 +58,13 @@ pub fn put_word_from(
     track: u32,
     place: usize,
     end: usize,
-    m: Mark,
-) -> Mark
+    pen: Pen,
+) -> Pen
     requires fits { Fits e × Small ws.now × (1 ≤ unitwidth) × (unitwidth ≤ 100_000) × Tracked track place end }
-    requires nonzero { 0 < word_end (end - place) s.now ws.now (word_for ws.now unitwidth e track place end) }
-    ensures { (record { bytes = out.new; at = result.at } ≡ put_all (word_lines (end - place) s.now ws.now m.h m.v (word_for ws.now unitwidth e track place end)) (record { bytes = out.old; at = m.at })) × (result.h ≡ word_pen_h (end - place) s.now ws.now m.h (word_for ws.now unitwidth e track place end)) × (result.v ≡ word_pen_v (end - place) m.v (word_for ws.now unitwidth e track place end)) }
+    requires ends { IsSome (word_end (end - place) s.now ws.now (word_for ws.now unitwidth e track place end)) }
+    ensures { Puts (word_lines (end - place) s.now ws.now pen.h pen.v (word_for ws.now unitwidth e track place end)) sheet.old sheet.new × (result.h ≡ word_pen_h (end - place) s.now ws.now pen.h (word_for ws.now unitwidth e track place end)) × (result.v ≡ word_pen_v (end - place) pen.v (word_for ws.now unitwidth e track place end)) }
 {
     let block = read_word::block_now(ws, e);
     let w = read_word::word_here(e, unitwidth, track, end - place, place, block);
-    put_word(out, s, ws, m, w)
+    put_word(sheet, s, ws, pen, w)
 }

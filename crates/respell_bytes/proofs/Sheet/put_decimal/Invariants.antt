@@ -1,6 +1,6 @@
 use Rattle.respell_model.specs.Sheet.{small}
 use Rattle.respell_bytes.proofs.Digits.{Digits}
-use Rattle.respell_bytes.proofs.put_decimal.Given as goal
+use Rattle.respell_bytes.proofs.Sheet.put_decimal.Given as goal
 
 abbrev pub invariant-loop-m : goal.invariant-loop-m
 invariant-loop-m l = Digits (small l.n) l.digits l.i l.m

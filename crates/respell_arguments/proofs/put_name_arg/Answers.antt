@@ -1,5 +1,0 @@
-use Rattle.respell_arguments.proofs.Arguments.{arguments}
-use Rattle.respell_arguments.proofs.put_name_arg.Goals as goal
-
-pub returns : goal.returns
-returns c = search arguments

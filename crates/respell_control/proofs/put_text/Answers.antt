@@ -1,5 +1,0 @@
-use Rattle.respell_control.proofs.Controls.{controls}
-use Rattle.respell_control.proofs.put_text.Goals as goal
-
-pub returns : goal.returns
-returns c = search controls

@@ -1,5 +1,0 @@
-use Rattle.respell_glyph.proofs.Glyphs.{glyphs}
-use Rattle.respell_glyph.proofs.put_glyph.Goals as goal
-
-pub returns : goal.returns
-returns c = search glyphs

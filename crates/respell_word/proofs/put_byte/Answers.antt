@@ -1,5 +1,0 @@
-use Rattle.respell_word.proofs.Words.{words}
-use Rattle.respell_word.proofs.put_byte.Goals as goal
-
-pub returns : goal.returns
-returns c = search words
