@@ -1,10 +1,18 @@
-// What the reader, the finder, the rewriter, the judging and the first name answer to C, as flat structs. The header is include/mrkvandel.h.
+// What the reader, the finder, the rewriter, the judging and the first name answer to C, as flat structs, each made `From` the routine's
+// answer. C has no `Result` and no enum with fields, and each struct's fields stand in the header's order (include/mrkvandel.h), so they
+// share none.
 #![tactic(auto)]
 
 ghost use Rattle.std.specs.Prelude.{◌≡◌};
 ghost use Rattle.capi_answers.specs.Flat.{flat_reading, flat_finding, flat_respelling, flat_judging, flat_part};
 
-use rules::{Colour, Finding, Judging, NamePart, ReadAnswer, Reading, Respelling};
+use rules::{Colour, Finding, Judging, NamePart, Reading, Refusal};
+
+// The default scheme, `d`: both colours of a refused stream.
+const DEFAULT: Colour = Colour {
+    scheme: b'd' as u32,
+    parts: [0; 4],
+};
 
 // The reader's answer. `refusal` is 0 where nothing is refused, else its number, with the offset; 80 bytes.
 #[repr(C)]
@@ -21,41 +29,34 @@ pub struct ReadResult {
     pub fill: Colour,
 }
 
-pub fn flat_reading(r: Reading) -> ReadResult
-    ensures { result ≡ flat_reading r }
-{
-    let glyph = r.glyph;
-    let fill = r.fill;
-    let answer = r.answer;
-    match answer {
-        ReadAnswer::Accepted {
-            records,
-            entries,
-            pages,
-            h,
-            v,
-        } => ReadResult {
-            offset: 0,
-            records,
-            entries,
-            refusal: 0,
-            pages,
-            h,
-            v,
-            glyph,
-            fill,
-        },
-        ReadAnswer::Refused { number, offset } => ReadResult {
-            offset,
-            records: 0,
-            entries: 0,
-            refusal: number,
-            pages: 0,
-            h: 0,
-            v: 0,
-            glyph,
-            fill,
-        },
+impl From<Result<Reading, Refusal>> for ReadResult {
+    ghost from_gives = { λ a r. r ≡ flat_reading a };
+
+    fn from(answer: Result<Reading, Refusal>) -> ReadResult {
+        match answer {
+            Ok(r) => ReadResult {
+                offset: 0,
+                records: r.records,
+                entries: r.entries,
+                refusal: 0,
+                pages: r.pages,
+                h: r.h,
+                v: r.v,
+                glyph: r.glyph,
+                fill: r.fill,
+            },
+            Err(r) => ReadResult {
+                offset: r.offset,
+                records: 0,
+                entries: 0,
+                refusal: r.number,
+                pages: 0,
+                h: 0,
+                v: 0,
+                glyph: DEFAULT,
+                fill: DEFAULT,
+            },
+        }
     }
 }
 
@@ -69,22 +70,24 @@ pub struct FindResult {
     pub refusal: u32,
 }
 
-pub fn flat_finding(f: Finding) -> FindResult
-    ensures { result ≡ flat_finding f }
-{
-    match f {
-        Finding::Accepted { records, hits } => FindResult {
-            offset: 0,
-            records,
-            hits,
-            refusal: 0,
-        },
-        Finding::Refused { number, offset } => FindResult {
-            offset,
-            records: 0,
-            hits: 0,
-            refusal: number,
-        },
+impl From<Result<Finding, Refusal>> for FindResult {
+    ghost from_gives = { λ a r. r ≡ flat_finding a };
+
+    fn from(answer: Result<Finding, Refusal>) -> FindResult {
+        match answer {
+            Ok(Finding { records, hits }) => FindResult {
+                offset: 0,
+                records,
+                hits,
+                refusal: 0,
+            },
+            Err(Refusal { number, offset }) => FindResult {
+                offset,
+                records: 0,
+                hits: 0,
+                refusal: number,
+            },
+        }
     }
 }
 
@@ -97,20 +100,22 @@ pub struct RespellResult {
     pub refusal: u32,
 }
 
-pub fn flat_respelling(r: Respelling) -> RespellResult
-    ensures { result ≡ flat_respelling r }
-{
-    match r {
-        Respelling::Accepted { len } => RespellResult {
-            offset: 0,
-            len,
-            refusal: 0,
-        },
-        Respelling::Refused { number, offset } => RespellResult {
-            offset,
-            len: 0,
-            refusal: number,
-        },
+impl From<Result<usize, Refusal>> for RespellResult {
+    ghost from_gives = { λ a r. r ≡ flat_respelling a };
+
+    fn from(answer: Result<usize, Refusal>) -> RespellResult {
+        match answer {
+            Ok(len) => RespellResult {
+                offset: 0,
+                len,
+                refusal: 0,
+            },
+            Err(Refusal { number, offset }) => RespellResult {
+                offset,
+                len: 0,
+                refusal: number,
+            },
+        }
     }
 }
 
@@ -126,31 +131,35 @@ pub struct JudgeResult {
     pub pages: u32,
 }
 
-pub fn flat_judging(j: Judging) -> JudgeResult
-    ensures { result ≡ flat_judging j }
-{
-    match j {
-        Judging::Accepted {
-            records,
-            entries,
-            pages,
-            spelling,
-        } => JudgeResult {
-            offset: 0,
-            records,
-            entries,
-            spelling,
-            refusal: 0,
-            pages,
-        },
-        Judging::Refused { number, offset } => JudgeResult {
-            offset,
-            records: 0,
-            entries: 0,
-            spelling: 0,
-            refusal: number,
-            pages: 0,
-        },
+impl From<Result<Judging, Refusal>> for JudgeResult {
+    ghost from_gives = { λ a r. r ≡ flat_judging a };
+
+    fn from(answer: Result<Judging, Refusal>) -> JudgeResult {
+        match answer {
+            Ok(
+                Judging {
+                    records,
+                    entries,
+                    pages,
+                    spelling,
+                },
+            ) => JudgeResult {
+                offset: 0,
+                records,
+                entries,
+                spelling,
+                refusal: 0,
+                pages,
+            },
+            Err(Refusal { number, offset }) => JudgeResult {
+                offset,
+                records: 0,
+                entries: 0,
+                spelling: 0,
+                refusal: number,
+                pages: 0,
+            },
+        }
     }
 }
 
@@ -163,24 +172,26 @@ pub struct FirstNameResult {
     pub source: u32,
 }
 
-pub fn flat_part(p: NamePart) -> FirstNameResult
-    ensures { result ≡ flat_part p }
-{
-    match p {
-        NamePart::Nowhere => FirstNameResult {
-            place: 0,
-            len: 0,
-            source: 0,
-        },
-        NamePart::InStream { place, len } => FirstNameResult {
-            place,
-            len,
-            source: 1,
-        },
-        NamePart::InFamilies { place, len } => FirstNameResult {
-            place,
-            len,
-            source: 2,
-        },
+impl From<NamePart> for FirstNameResult {
+    ghost from_gives = { λ p r. r ≡ flat_part p };
+
+    fn from(part: NamePart) -> FirstNameResult {
+        match part {
+            NamePart::Nowhere => FirstNameResult {
+                place: 0,
+                len: 0,
+                source: 0,
+            },
+            NamePart::InStream { place, len } => FirstNameResult {
+                place,
+                len,
+                source: 1,
+            },
+            NamePart::InFamilies { place, len } => FirstNameResult {
+                place,
+                len,
+                source: 2,
+            },
+        }
     }
 }

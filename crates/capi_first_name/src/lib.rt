@@ -19,6 +19,5 @@ pub extern "C" fn mrkvandel_first_name(
 ) -> FirstNameResult
     ensures { (a : NamePart) × NamePartCall stream.now families.now place len a × (result ≡ flat_part a) }
 {
-    let p = first_name::name_part(stream, families, place, len);
-    capi_answers::flat_part(p)
+    FirstNameResult::from(first_name::name_part(stream, families, place, len))
 }

@@ -1,8 +1,9 @@
 // The judging as a C function: slices cross as a pointer and a length, the answer as a flat struct. The header is include/mrkvandel.h.
 #![tactic(auto)]
 
-ghost use Rattle.std.specs.Prelude.{◌≡◌};
+ghost use Rattle.std.specs.Prelude.{◌≡◌, Result};
 ghost use Rattle.rules.specs.declared.Judging.{Judging};
+ghost use Rattle.rules.specs.declared.Refusal.{Refusal};
 ghost use Rattle.rules.specs.Calls.{JudgeCall};
 ghost use Rattle.capi_answers.specs.Flat.{flat_judging};
 
@@ -11,8 +12,7 @@ use capi_answers::JudgeResult;
 // Judging, `judge::judge`.
 #[unsafe(no_mangle)]
 pub extern "C" fn mrkvandel_judge(stream: &[u8], widths: &[u8]) -> JudgeResult
-    ensures { (a : Judging) × JudgeCall stream.now widths.now a × (result ≡ flat_judging a) }
+    ensures { (a : Result Judging Refusal) × JudgeCall stream.now widths.now a × (result ≡ flat_judging a) }
 {
-    let j = judge::judge(stream, widths);
-    capi_answers::flat_judging(j)
+    JudgeResult::from(judge::judge(stream, widths))
 }

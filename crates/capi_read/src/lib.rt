@@ -1,8 +1,9 @@
 // The reader as a C function: slices cross as a pointer and a length, the answer as a flat struct. The header is include/mrkvandel.h.
 #![tactic(auto)]
 
-ghost use Rattle.std.specs.Prelude.{◌≡◌};
+ghost use Rattle.std.specs.Prelude.{◌≡◌, Result};
 ghost use Rattle.rules.specs.declared.Reading.{Reading};
+ghost use Rattle.rules.specs.declared.Refusal.{Refusal};
 ghost use Rattle.rules.specs.Calls.{ReadCall};
 ghost use Rattle.capi_answers.specs.Flat.{flat_reading};
 
@@ -17,8 +18,7 @@ pub extern "C" fn mrkvandel_read(
     records: &mut [Record],
     entries: &mut [Entry],
 ) -> ReadResult
-    ensures { (a : Reading) × ReadCall stream.now widths.now records.old entries.old a records.new entries.new × (result ≡ flat_reading a) }
+    ensures { (a : Result Reading Refusal) × ReadCall stream.now widths.now records.old entries.old a records.new entries.new × (result ≡ flat_reading a) }
 {
-    let r = read::read(stream, widths, records, entries);
-    capi_answers::flat_reading(r)
+    ReadResult::from(read::read(stream, widths, records, entries))
 }

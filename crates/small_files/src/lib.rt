@@ -2,7 +2,7 @@
 // buffer has.
 #![tactic(auto)]
 
-ghost use Rattle.std.specs.Prelude.{◌≤◌, length};
+ghost use Rattle.std.specs.Prelude.{IfSome, IfOk};
 ghost use Rattle.small_out.specs.Prefix.{IsPrefixLen};
 
 use small_out::{fail, say};
@@ -10,21 +10,6 @@ use std::env::FillError;
 use std::io::Read;
 use std::rt::{Env, Files};
 use std::{fs, io, str};
-
-// How many bytes stand at the start of the buffer, and whether nothing failed.
-#[derive(Clone, Copy)]
-pub struct Loaded {
-    pub n: usize,
-    pub good: bool,
-}
-
-// The same of two buffers, of a stream and of its width list.
-#[derive(Clone, Copy)]
-pub struct Both {
-    pub stream: usize,
-    pub widths: usize,
-    pub good: bool,
-}
 
 // The longest stream that the programs take, which fits a stack of 8 MiB, and the room to see a longer one.
 pub const STREAM_MOST: usize = 1048576;
@@ -44,8 +29,8 @@ const TOO_LONG: i32 = 36;
 
 const NOT_TEXT: i32 = 84;
 
-// The first two words of a command line of `count`, its program's name among them: the paths of a stream and of its width list. Where
-// there are more or fewer, the usage is said.
+// The first two words of a command line of `count`, its program's name among them: how long the paths of a stream and of its width list
+// are. Where there are more or fewer, the usage is said.
 pub fn paths(
     rt: &impl Env,
     err: &impl Print,
@@ -53,24 +38,16 @@ pub fn paths(
     usage: &[u8],
     stream: &mut [u8],
     widths: &mut [u8],
-) -> Both
-    ensures prefix_len { IsPrefixLen result.stream stream.new }
-    ensures prefix_len_2 { IsPrefixLen result.widths widths.new }
+) -> Option<(usize, usize)>
+    ensures { IfSome result (λ n. IsPrefixLen n.0 stream.new × IsPrefixLen n.1 widths.new) }
 {
     if !has_words(rt, count) {
         say(err, usage);
-        return nothing(stream, widths);
+        return None;
     }
-    let a = word(rt, err, 1, stream, b"STREAM");
-    if !a.good {
-        return nothing(stream, widths);
-    }
-    let b = word(rt, err, 2, widths, b"WIDTHS");
-    Both {
-        stream: a.n,
-        widths: b.n,
-        good: b.good,
-    }
+    let n = word(rt, err, 1, stream, b"STREAM")?;
+    let m = word(rt, err, 2, widths, b"WIDTHS")?;
+    Some((n, m))
 }
 
 // Whether the command line is of `count` words.
@@ -80,34 +57,32 @@ fn has_words(rt: &impl Env, count: usize) -> bool {
 
 // A word that is there is longer than the buffer, or as long, or empty.
 fn has_word(rt: &impl Env, i: usize) -> bool {
-    let mut first = [0u8];
-    match rt.arg(i, &mut first) {
-        Ok(_) | Err(FillError::TooLong) => true,
-        Err(FillError::NotPresent) => false,
-    }
+    !matches!(rt.arg(i, &mut [0]), Err(FillError::NotPresent))
 }
 
-// Word i of the command line, at the start of the buffer; where there is none, or a longer one, that is said under the given name.
-pub fn word(rt: &impl Env, err: &impl Print, i: usize, buf: &mut [u8], name: &[u8]) -> Loaded
-    ensures { IsPrefixLen result.n buf.new }
+// How long word i of the command line is, which stands at the start of the buffer then; where there is none, or a longer one, that is
+// said under the given name.
+pub fn word(rt: &impl Env, err: &impl Print, i: usize, buf: &mut [u8], name: &[u8]) -> Option<usize>
+    ensures { IfSome result (λ n. IsPrefixLen n buf.new) }
 {
     match rt.arg(i, buf) {
-        Ok(n) => Loaded { n, good: true },
+        Ok(n) => Some(n),
         Err(why) => {
             fail(err, name, no_word(why));
-            Loaded { n: 0, good: false }
+            None
         }
     }
 }
 
 fn no_word(why: FillError) -> io::Error {
-    match why {
-        FillError::NotPresent => io::Error::from_raw_os_error(INVALID),
-        FillError::TooLong => io::Error::from_raw_os_error(TOO_LONG),
-    }
+    io::Error::from_raw_os_error(match why {
+        FillError::NotPresent => INVALID,
+        FillError::TooLong => TOO_LONG,
+    })
 }
 
-// The stream and the width list at their paths. What fails is said on standard error.
+// How long the stream and the width list at their paths are, which stand at the start of the buffers then. What fails is said on standard
+// error.
 pub fn load_both(
     rt: &impl Files,
     err: &impl Print,
@@ -115,69 +90,48 @@ pub fn load_both(
     widths: &[u8],
     s: &mut [u8],
     list: &mut [u8],
-) -> Both
-    ensures prefix_len { IsPrefixLen result.stream s.new }
-    ensures prefix_len_2 { IsPrefixLen result.widths list.new }
+) -> Option<(usize, usize)>
+    ensures { IfSome result (λ n. IsPrefixLen n.0 s.new × IsPrefixLen n.1 list.new) }
 {
-    let text = load_stream(rt, err, stream, s);
-    if !text.good {
-        return nothing(s, list);
-    }
-    let names = load(rt, err, widths, list);
-    Both {
-        stream: text.n,
-        widths: names.n,
-        good: names.good,
-    }
+    let n = load_stream(rt, err, stream, s)?;
+    let m = load(rt, err, widths, list)?;
+    Some((n, m))
 }
 
-fn nothing(s: &[u8], list: &[u8]) -> Both
-    ensures prefix_len { IsPrefixLen result.stream s.now }
-    ensures prefix_len_2 { IsPrefixLen result.widths list.now }
+// A stream, as `load`; a longer one than the programs take is none.
+fn load_stream(rt: &impl Files, err: &impl Print, path: &[u8], buf: &mut [u8]) -> Option<usize>
+    ensures { IfSome result (λ n. IsPrefixLen n buf.new) }
 {
-    Both {
-        stream: 0,
-        widths: 0,
-        good: false,
-    }
-}
-
-// A stream, as `load`; a longer one than the programs take is no good.
-fn load_stream(rt: &impl Files, err: &impl Print, path: &[u8], buf: &mut [u8]) -> Loaded
-    ensures { IsPrefixLen result.n buf.new }
-{
-    let got = load(rt, err, path, buf);
-    let n = got.n;
+    let n = load(rt, err, path, buf)?;
     if n <= STREAM_MOST {
-        return got;
+        return Some(n);
     }
     say(err, path);
     say(
         err,
         b": over 1,048,576 bytes, more than this program takes\n",
     );
-    Loaded { n: n, good: false }
+    None
 }
 
-// Reads the file into the buffer until either ends. What fails is said on standard error.
-pub fn load(rt: &impl Files, err: &impl Print, path: &[u8], buf: &mut [u8]) -> Loaded
-    ensures { IsPrefixLen result.n buf.new }
+// Reads the file into the buffer until either ends: how many bytes. What fails is said on standard error.
+pub fn load(rt: &impl Files, err: &impl Print, path: &[u8], buf: &mut [u8]) -> Option<usize>
+    ensures { IfSome result (λ n. IsPrefixLen n buf.new) }
 {
-    let mut file = match open(rt, path) {
-        Ok(file) => file,
+    match read_file(rt, path, buf) {
+        Ok(n) => Some(n),
         Err(error) => {
             fail(err, path, error);
-            return Loaded { n: 0, good: false };
+            None
         }
-    };
-    let got = read_all(&mut file, buf);
-    if let Err(error) = got.good {
-        fail(err, path, error);
     }
-    Loaded {
-        n: got.n,
-        good: got.good.is_ok(),
-    }
+}
+
+fn read_file(rt: &impl Files, path: &[u8], buf: &mut [u8]) -> io::Result<usize>
+    ensures { IfOk result (λ n. IsPrefixLen n buf.new) }
+{
+    let mut file = open(rt, path)?;
+    read_all(&mut file, buf)
 }
 
 // A path is text here, so one of other bytes names no file.
@@ -188,38 +142,17 @@ fn open<R: Files>(rt: &R, path: &[u8]) -> io::Result<R::File> {
     }
 }
 
-// How many bytes were read, and why no more, where that failed.
-#[derive(Drop)]
-struct Got {
-    n: usize,
-    good: io::Result<()>,
-}
-
-fn read_all(file: &mut impl Read, buf: &mut [u8]) -> Got
-    ensures { IsPrefixLen result.n buf.new }
+// std reads a whole file only into what grows, so here it is read part by part.
+fn read_all(file: &mut impl Read, buf: &mut [u8]) -> io::Result<usize>
+    ensures { IfOk result (λ n. IsPrefixLen n buf.new) }
 {
     let mut at = 0;
-    let mut good = Ok(());
     while at < buf.len() {
-        let got = read_some(file, &mut buf[at..]);
-        let n = got.n;
+        let n = file.read(&mut buf[at..])?;
         if n == 0 {
-            good = got.good;
             break;
         }
         at += n;
     }
-    Got { n: at, good }
-}
-
-fn read_some(file: &mut impl Read, part: &mut [u8]) -> Got
-    ensures { result.n ≤ length part.old }
-{
-    match file.read(part) {
-        Ok(n) => Got { n, good: Ok(()) },
-        Err(error) => Got {
-            n: 0,
-            good: Err(error),
-        },
-    }
+    Ok(at)
 }

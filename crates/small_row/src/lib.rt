@@ -1,7 +1,7 @@
-// Rows of records and of entries: what a row holds before it is filled, how many of its places are printed, and what is at a place.
+// What a row of records and one of entries hold before they are filled.
 #![tactic(auto)]
 
-ghost use Rattle.std.specs.Prelude.{◌≡◌, ◌<◌, ◌≤◌, length, get_or};
+ghost use Rattle.std.specs.Prelude.{◌≡◌};
 ghost use Rattle.small_row.specs.Blank.{blank_record, blank_entry};
 
 use rules::{Entry, Record};
@@ -36,24 +36,4 @@ pub fn no_entry() -> Entry
         h: 0,
         v: 0,
     }
-}
-
-pub fn least(a: usize, b: usize) -> usize
-    ensures { result ≤ b }
-{
-    if a < b { a } else { b }
-}
-
-pub fn get_record(row: &[Record], i: usize) -> Record
-    requires { i < length row.now }
-    ensures { result ≡ get_or row.now i blank_record }
-{
-    row[i]
-}
-
-pub fn get_entry(row: &[Entry], i: usize) -> Entry
-    requires { i < length row.now }
-    ensures { result ≡ get_or row.now i blank_entry }
-{
-    row[i]
 }
