@@ -67,25 +67,10 @@ old_record = record { ordinal = 9; page = pos 9; h = pos 9; v = pos 9; font = 9;
 abbrev pub old_entry : Entry
 old_entry = record { command = 9; letter = 9; scheme = 9; ordinal = 9; place = 9; len = 9; h = pos 9; v = pos 9 }
 
-abbrev pub records_in : Result Reading Refusal → ℕ
-records_in (Err r) = 0
-records_in (Ok a) = a.records
-
-abbrev pub entries_in : Result Reading Refusal → ℕ
-entries_in (Err r) = 0
-entries_in (Ok a) = a.entries
-
-abbrev pub bytes_in : Result ℕ Refusal → ℕ
-bytes_in (Err r) = 0
-bytes_in (Ok n) = n
-
-abbrev pub found_in : Result Finding Refusal → ℕ
-found_in (Err r) = 0
-found_in (Ok a) = a.records
-
-abbrev pub hits_in : Result Finding Refusal → ℕ
-hits_in (Err r) = 0
-hits_in (Ok a) = a.hits
+-- so many of what was answered; none in a refusal
+abbrev pub counted : {A : Type 0} → (A → ℕ) → Result A Refusal → ℕ
+counted count (Err r) = 0
+counted count (Ok a) = count a
 
 abbrev pub reading_text : List ℕ → List Record → List Entry → Result Reading Refusal → List ℕ
 reading_text s rs xs (Err r) = refused_text r
@@ -96,10 +81,11 @@ reading_text s rs xs (Ok a) =
 
 unfoldable pub read_text : List ℕ → Answer → List ℕ
 read_text s a =
-    let rs = records_over (replicate (records_in (reading_of a) + 1) old_record) a in
-    let xs = entries_over (replicate (entries_in (reading_of a) + 1) old_entry) a in
-    reading_text s rs xs (reading_of a)
-    ++ (glyph_texts [] (drop (records_in (reading_of a)) rs) ++ entry_texts (drop (entries_in (reading_of a)) xs))
+    let n = counted (λ (x : Reading). x.records) (reading_of a) in
+    let m = counted (λ (x : Reading). x.entries) (reading_of a) in
+    let rs = records_over (replicate (n + 1) old_record) a in
+    let xs = entries_over (replicate (m + 1) old_entry) a in
+    reading_text s rs xs (reading_of a) ++ (glyph_texts [] (drop n rs) ++ entry_texts (drop m xs))
 
 abbrev pub respelling_text : List ℕ → Result ℕ Refusal → List ℕ
 respelling_text t (Err r) = refused_text r
@@ -107,8 +93,9 @@ respelling_text t (Ok n) = take n t
 
 unfoldable pub spell_text : Spelling → List ℕ
 spell_text x =
-    let t = buffer_over (replicate (bytes_in (respelling_of x) + 2) 9) x in
-    respelling_text t (respelling_of x) ++ drop (bytes_in (respelling_of x)) t
+    let n = counted (λ (len : ℕ). len) (respelling_of x) in
+    let t = buffer_over (replicate (n + 2) 9) x in
+    respelling_text t (respelling_of x) ++ drop n t
 
 abbrev pub finding_text : List ℕ → Result Finding Refusal → List ℕ
 finding_text is (Err r) = refused_text r
@@ -116,9 +103,11 @@ finding_text is (Ok a) = hit_texts (take a.hits is) ++ (sp (bytes "found") (sp (
 
 unfoldable pub find_text : Found → List ℕ
 find_text f =
-    let rs = records_found (replicate (found_in (finding_of f) + 1) old_record) f in
-    let is = hits_over (replicate (hits_in (finding_of f) + 1) 9) f in
-    finding_text is (finding_of f) ++ (glyph_texts [] (drop (found_in (finding_of f)) rs) ++ hit_texts (drop (hits_in (finding_of f)) is))
+    let n = counted (λ (x : Finding). x.records) (finding_of f) in
+    let m = counted (λ (x : Finding). x.hits) (finding_of f) in
+    let rs = records_found (replicate (n + 1) old_record) f in
+    let is = hits_over (replicate (m + 1) 9) f in
+    finding_text is (finding_of f) ++ (glyph_texts [] (drop n rs) ++ hit_texts (drop m is))
 
 -- where a first name stands, and its bytes
 abbrev pub part_head : NamePart → List ℕ
