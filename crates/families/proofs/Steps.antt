@@ -1,6 +1,5 @@
 -- The key of a line and whether a name is new: the answer of each return, in the form in which the check applies it.
-use Rattle.std.specs.Prelude.{Some, None, if◌then◌else◌}
-use Rattle.std.specs.Bool.{then_some}
+use Rattle.std.specs.Prelude.{Some, None}
 use Rattle.std.specs.Prelude as P
 use Prim.Native.Nat.{ℕ, ◌+◌, ◌-◌, ◌≤◌}
 use native.Mathlib.Omega.{arith}
@@ -13,7 +12,7 @@ use Rattle.std.specs.Option.{is_none as is_no}
 use Rattle.rules.specs.Bytes.{bytes}
 use Rattle.rules.specs.Widths.{behind, is_list_name}
 use Rattle.rules.specs.Families.{Family, names_in, is_in, family_of, is_none, is_new_name}
-use Rattle.laws.proofs.Cases.{on}
+use Rattle.laws.proofs.Cases.{on, no}
 use Rattle.scan_lex.proofs.Lines.{behind_some}
 use Rattle.families_line.specs.Line.{key_by, key_of, may_stand, mark_of}
 use Rattle.families_line.specs.declared.Key.{Key}
@@ -54,27 +53,26 @@ keyed_long t k = go (behind (bytes "name=") t) (behind (bytes "same=") t) refl r
 pub key_place : (fl : List ℕ) (at e : ℕ) (k : Key) → at ≤ e → e ≤ length fl → Some k ≡ key_of (take (e - at) (drop at fl)) → at + 5 ≤ e
 key_place fl at e k h i n = omega (arith, keyed_long (take (e - at) (drop at fl)) k n, length-take (e - at) (drop at fl), length-drop at fl)
 
-then_if : (b : Bool) (key : Key) → then_some b key ≡ (if b then Some key else None)
-then_if true key = refl
-then_if false key = refl
-
 module _ (fl : List ℕ) (tab : Table) (st : FamilyState) (e : ℕ) (o : P.Option Key) (k : o ≡ key_of (take (e - st.at) (drop st.at fl))) where
-  pub key_none : o ≡ None → None ≡ line_key fl tab st e
-  unfolding line_key
-  key_none x = rw (← k, x)
+  module _ (r : Bool) (m : r ≡ may_stand o st.families st.size) where
+    pub key-behind : r ≡ true → st.at ≤ e → e ≤ length fl → st.at + 5 ≤ e
+    key-behind y h i = go o k (sym m ∙ y)
+      where
+        go : (p : P.Option Key) → p ≡ key_of (take (e - st.at) (drop st.at fl)) → may_stand p st.families st.size ≡ true → st.at + 5 ≤ e
+        go (Some key) x z = key_place fl st.at e key h i x
+        go None x z = no z
 
-  module _ (key : Key) (x : o ≡ Some key) where
-    pub key-behind : st.at ≤ e → e ≤ length fl → st.at + 5 ≤ e
-    key-behind h i = key_place fl st.at e key h i (sym x ∙ k)
+    pub key-wrong : r ≡ false → None ≡ line_key fl tab st e
+    unfolding line_key
+    key-wrong y = rw (← k, sym m ∙ y)
 
-    module _ (r : Bool) (m : r ≡ may_stand key st.families st.size) where
-      pub key-wrong : r ≡ false → None ≡ line_key fl tab st e
+    module _ (y : r ≡ true) (b : Bool) (n : b ≡ is_new_name (take (e - (st.at + 5)) (drop (st.at + 5) fl)) (families_at fl tab st.families)) where
+      pub key_new : b ≡ true → o ≡ line_key fl tab st e
       unfolding line_key
-      key-wrong y = rw (← k, x, sym m ∙ y)
+      key_new z = rw (← k, sym m ∙ y, sym n ∙ z)
 
-      pub key_new : r ≡ true → (b : Bool) → b ≡ is_new_name (take (e - (st.at + 5)) (drop (st.at + 5) fl)) (families_at fl tab st.families)
-          → then_some b key ≡ line_key fl tab st e
+      pub key_known : b ≡ false → None ≡ line_key fl tab st e
       unfolding line_key
-      key_new y b n = rw (← k, x, sym m ∙ y, ← n) (then_if b key)
+      key_known z = rw (← k, sym m ∙ y, sym n ∙ z)
 
-pub ruleset steps = (new_not, new_marked, new_owner, key_none, key-behind, key-wrong, key_new)
+pub ruleset steps = (new_not, new_marked, new_owner, key-behind, key-wrong, key_new, key_known)

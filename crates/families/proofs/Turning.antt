@@ -64,7 +64,7 @@ made_if false key at n fs = refl
 abbrev line_by : P.Option Key → ℕ → List ℕ → List Family → Option (List Family)
 line_by o at n fs = made_of (key_if o (length fs) (newest_size fs) (is_new_name n fs)) at n fs
 
-may_begin : (fs : List Family) → (is_whole fs && ltb (length fs) 256) ≡ may_stand Name (length fs) (newest_size fs)
+may_begin : (fs : List Family) → (is_whole fs && ltb (length fs) 256) ≡ may_stand (Some Name) (length fs) (newest_size fs)
 may_begin [] = refl
 may_begin (f ∷ fs) = rw (ne_eqb (suc (length fs)) 0 (λ e. omega arith), ltb_suc 0 (length f.others))
 
@@ -72,7 +72,7 @@ name_by : (fs : List Family) (at : ℕ) (n : List ℕ) → name_line fs at n ≡
 name_by fs at n =
     ap (λ (b : Bool). if b then some (begun at n fs) else none)
     (and_assoc (is_whole fs) (ltb (length fs) 256) (is_new_name n fs) ∙ ap (λ (b : Bool). b && is_new_name n fs) (may_begin fs))
-    ∙ made_if (may_stand Name (length fs) (newest_size fs) && is_new_name n fs) Name at n fs
+    ∙ made_if (may_stand (Some Name) (length fs) (newest_size fs) && is_new_name n fs) Name at n fs
 
 same_by : (fs : List Family) (at : ℕ) (n : List ℕ) → same_line fs (some n) ≡ line_by (Some Same) at n fs
 same_by [] at n = refl
@@ -92,19 +92,19 @@ line_by_lem fs at t = go (behind (bytes "name=") t) (behind (bytes "same=") t) r
 
 -- ---- the state behind the line
 
-key_if_some : (o : P.Option Key) (families size : ℕ) (b : Bool) (key : Key) → key_if o families size b ≡ Some key → (o ≡ Some key) × (may_stand key families size ≡ true)
+key_if_some : (o : P.Option Key) (families size : ℕ) (b : Bool) (key : Key) → key_if o families size b ≡ Some key → (o ≡ Some key) × (may_stand (Some key) families size ≡ true)
 key_if_some None families size b key h = cc
 key_if_some (Some k) families size b key h =
-    on (may_stand k families size && b)
+    on (may_stand (Some k) families size && b)
     (λ e.
     let z : k ≡ key = cc (rw e at h) in
-    (ap Some z, rw (← z) (and_left (may_stand k families size) b e)))
+    (ap Some z, rw (← z) (and_left (may_stand (Some k) families size) b e)))
     (λ e. cc (rw e at h))
 
-may_name : (families size : ℕ) → may_stand Name families size ≡ true → families < 256
+may_name : (families size : ℕ) → may_stand (Some Name) families size ≡ true → families < 256
 may_name families size h = ltb-true families 256 (and_right (eqb families 0 || ltb 1 size) (ltb families 256) h)
 
-may_same : (families size : ℕ) → may_stand Same families size ≡ true → (0 < families) × (size < 8)
+may_same : (families size : ℕ) → may_stand (Some Same) families size ≡ true → (0 < families) × (size < 8)
 may_same families size h = (ltb-true 0 families (and_left (ltb 0 families) (ltb size 8) h), ltb-true size 8 (and_right (ltb 0 families) (ltb size 8) h))
 
 -- what the state behind a line with a key that may stand has
@@ -115,7 +115,7 @@ record Ahead (u : FamilyState) (at : ℕ) : Type 0 where
   some_names : 1 ≤ u.size
   few_names : u.size ≤ 8
 
-ahead : (key : Key) (at : ℕ) (st : FamilyState) → st.families ≤ 256 → st.size ≤ 8 → may_stand key st.families st.size ≡ true → Ahead (next_of key at st) at
+ahead : (key : Key) (at : ℕ) (st : FamilyState) → st.families ≤ 256 → st.size ≤ 8 → may_stand (Some key) st.families st.size ≡ true → Ahead (next_of key at st) at
 ahead Name at st a b h =
     let c = may_name st.families st.size h in
     record { at_is = refl; some_families = omega arith; few_families = omega arith; some_names = omega arith; few_names = omega arith }
@@ -154,7 +154,7 @@ module _ (fl : List ℕ) (tab : Table) (x : FamilyName) (l : length tab.names �
       rw e (put_grown fl tab x l m n size (omega arith) c g v, put_sized tab n (size + 1) x l m (omega arith) (omega arith) (omega arith) (sized_less tab n g))
 
   held : (key : Key) (at : ℕ) (st : FamilyState) → Sized tab st.families → newest_size (families_at fl tab st.families) ≡ st.size
-      → may_stand key st.families st.size ≡ true → Held key st (next_of key at st)
+      → may_stand (Some key) st.families st.size ≡ true → Held key st (next_of key at st)
   held Name at st g v h =
       let c = may_name st.families st.size h in
       let e : st.families + 1 - 1 ≡ st.families = omega arith in
@@ -211,7 +211,7 @@ module _ (fl : List ℕ) (st : FamilyState) (tab : Table) (seen : List Bool) (G 
         rw y (ended ∙ rw n, z ∙ a)
 
     module _ (key : Key) (n : o ≡ Some key) where
-      parts : (key_of text ≡ Some key) × (may_stand key st.families st.size ≡ true)
+      parts : (key_of text ≡ Some key) × (may_stand (Some key) st.families st.size ≡ true)
       unfolding line_key
       parts = key_if_some (key_of text) st.families st.size (is_new_name name so_far) key (sym k ∙ n)
 

@@ -1,5 +1,5 @@
 -- The family list line by line, as the code goes over it.
-use Rattle.std.specs.Prelude.{ℕ, ◌+◌, ◌-◌, ◌*◌, ◌≤◌, ◌<◌, Bool, true, false, ◌&&◌, List, [], ◌∷◌, ◌≡◌, length, take, drop, get_or, set, suc, Option, Some, None, Result, Ok, Err, if◌then◌else◌}
+use Rattle.std.specs.Prelude.{ℕ, ◌+◌, ◌-◌, ◌*◌, ◌≤◌, ◌<◌, Bool, true, false, ◌&&◌, List, [], ◌∷◌, ◌≡◌, length, take, drop, get_or, set, suc, Option, None, Result, Ok, Err, if◌then◌else◌}
 use Rattle.rules.specs.declared.Refusal.{Refusal}
 use Rattle.rules.specs.Answers.{refusal}
 use Rattle.rules.specs.Widths.{lines_from}
@@ -18,8 +18,7 @@ pub record Marked (seen : List Bool) (fs : List Family) : Type 0 where
 
 -- a line's key, where a line with it may stand and its name is new
 abbrev pub key_if : Option Key → ℕ → ℕ → Bool → Option Key
-key_if None families size new = None
-key_if (Some key) families size new = if may_stand key families size && new then Some key else None
+key_if key families size new = if may_stand key families size && new then key else None
 
 -- the key of the line from the state's place to e, none where the line is wrong
 unfoldable pub line_key : List ℕ → Table → FamilyState → ℕ → Option Key

@@ -49,10 +49,12 @@ fn line_key(
     requires { Going fl.now st table.now seen.now × (st.at ≤ end) × (end ≤ length fl.now) }
     ensures { result ≡ line_key fl.now table.now st end }
 {
-    let key = families_line::key_of(&fl[st.at..end])?;
+    let key = families_line::key_of(&fl[st.at..end]);
     if families_line::may_stand(key, st.families, st.size) {
         let place = st.at + 5;
-        return is_new(fl, table, seen, st.families, &fl[place..end]).then_some(key);
+        if is_new(fl, table, seen, st.families, &fl[place..end]) {
+            return key;
+        }
     }
     None
 }

@@ -1,5 +1,5 @@
 -- One line of the family list, as the code sees it.
-use Rattle.std.specs.Prelude.{ℕ, ◌+◌, ◌*◌, ◌%◌, Bool, ◌&&◌, ◌||◌, List, [], ◌∷◌, Option, Some, None, ltb, eqb}
+use Rattle.std.specs.Prelude.{ℕ, ◌+◌, ◌*◌, ◌%◌, Bool, false, ◌&&◌, ◌||◌, List, [], ◌∷◌, Option, Some, None, ltb, eqb}
 use Rattle.std.proofs.Math.Option as M
 use Rattle.rules.specs.Bytes.{bytes}
 use Rattle.rules.specs.Widths.{behind}
@@ -15,10 +15,11 @@ key_by M.none M.none = None
 abbrev pub key_of : List ℕ → Option Key
 key_of t = key_by (behind (bytes "name=") t) (behind (bytes "same=") t)
 
--- a line with a key may stand behind so many families, the newest of which has so many names
-abbrev pub may_stand : Key → ℕ → ℕ → Bool
-may_stand Name families size = (eqb families 0 || ltb 1 size) && ltb families 256
-may_stand Same families size = ltb 0 families && ltb size 8
+-- a line with a key may stand behind so many families, the newest of which has so many names; one without a key stands nowhere
+abbrev pub may_stand : Option Key → ℕ → ℕ → Bool
+may_stand (Some Name) families size = (eqb families 0 || ltb 1 size) && ltb families 256
+may_stand (Some Same) families size = ltb 0 families && ltb size 8
+may_stand None families size = false
 
 -- equal names have equal marks
 unfoldable pub mark_from : ℕ → List ℕ → ℕ

@@ -25,13 +25,14 @@ pub fn key_of(t: &[u8]) -> Option<Key>
     }
 }
 
-// Whether a line with this key may stand behind so many families, the newest of which has so many names.
-pub fn may_stand(key: Key, families: usize, size: usize) -> bool
+// Whether a line with this key, if it has one, may stand behind so many families, the newest of which has so many names.
+pub fn may_stand(key: Option<Key>, families: usize, size: usize) -> bool
     ensures { result ≡ may_stand key families size }
 {
     match key {
-        Key::Name => (families == 0 || 1 < size) && families < 256,
-        Key::Same => 0 < families && size < 8,
+        Some(Key::Name) => (families == 0 || 1 < size) && families < 256,
+        Some(Key::Same) => 0 < families && size < 8,
+        None => false,
     }
 }
 

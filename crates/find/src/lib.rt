@@ -77,7 +77,7 @@ pub fn find(
     find_room::room(s, &question, b, hits.len())?;
     let c = find_setup::again(&mut ws, b, s.len(), records.len())?;
     let d = read_pass::pass(records, &mut none, &mut ws, s, list, c);
-    let from = find_setup::progress(d.records, count, hits.len());
+    let from = find_setup::progress(d, count, hits.len());
     let e = find_search::search(hits, records, s, &question, from);
     Ok(Finding {
         records: d.records,

@@ -86,7 +86,7 @@ module _ (s : List ℕ) (w : Question) (recs : List Record) (p₀ : Looked) wher
     pub good : 0 < p.state.left → SearchGood p.state
     pub records : p.state.records ≤ length recs
     pub hmax : p.state.hmax ≡ length p₀.hits
-    pub glyphs : p.state.glyphs ≤ length w.glyphs.now
+    pub glyphs : 0 < p.state.left → p.state.glyphs ≤ length w.glyphs.now
     pub same : length p.hits ≡ length p₀.hits
 
   pub first_known : SearchReady (length recs) (length p₀.hits) w p₀.state → Known p₀.state.left p₀
@@ -121,7 +121,7 @@ module _ (s : List ℕ) (w : Question) (recs : List Record) (p₀ : Looked) wher
           good = well.good;
           records = omega (arith, well.records, kn.records);
           hmax = well.hmax ∙ kn.hmax;
-          glyphs = omega (arith, well.glyphs, kn.glyphs);
+          glyphs = λ z. omega (arith, well.glyphs, kn.glyphs going);
           same = hits_length p.hits p.state.hits x.hit ∙ kn.same;
         }),
       )

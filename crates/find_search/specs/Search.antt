@@ -33,7 +33,7 @@ search_of s w recs p = search_for p.state.left s w recs p
 
 -- a search over rows of n records and h hits
 pub record SearchReady (n h : ℕ) (w : Question) (st : Progress) : Type 0 where
-  pub glyphs : st.glyphs ≤ length w.glyphs.now
+  pub glyphs : 0 < st.left → st.glyphs ≤ length w.glyphs.now
   pub good : 0 < st.left → SearchGood st
   pub records : st.records ≤ n
   pub hits : st.hmax ≡ h

@@ -1,6 +1,6 @@
 -- What a finding does around its passes and its search: the state in which a pass begins, where the search begins. In
 -- the code's own steps.
-use Rattle.std.specs.Prelude.{ℕ, List, ◌≡◌, eqb, Result, Ok, Err, if◌then◌else◌}
+use Rattle.std.specs.Prelude.{ℕ, ◌≤◌, List, ◌≡◌, eqb, Result, Ok, Err, if◌then◌else◌}
 use Rattle.rules.specs.declared.Refusal.{Refusal}
 use Rattle.rules.specs.Answers.{refusal}
 use Rattle.read_model.specs.declared.State.{State}
@@ -27,6 +27,18 @@ find_next_of b n rmax = begun_of (again_of b n rmax b.entries 2)
 
 -- ---- the search
 
+-- how many records are searched: none in a refusal
+abbrev pub searched : State → ℕ
+searched d = if eqb d.refusal 0 then d.records else 0
+
+-- where nothing is refused, there are no more records than a stream has bytes
+abbrev pub FewRecords : State → Type 0
+FewRecords d = d.refusal ≡ 0 → d.records ≤ 16777216
+
 -- from the first of n records on, with m glyphs
 abbrev pub fresh_of : ℕ → ℕ → ℕ → Progress
 fresh_of n m hmax = record { left = left_at n 0 0; at = 0; glyph = 0; hits = 0; hmax = hmax; records = n; glyphs = m; page = 0 }
+
+-- where the search begins, the last pass having ended at d, for m glyphs
+abbrev pub progress_of : State → ℕ → ℕ → Progress
+progress_of d m hmax = fresh_of (searched d) m hmax

@@ -4,7 +4,7 @@
 ghost use Rattle.std.specs.Prelude.{◌≡◌, ◌≤◌};
 ghost use Rattle.read_turn.specs.Ready.{Scratch};
 ghost use Rattle.read_setup.specs.Setup.{Unmounted};
-ghost use Rattle.find_setup.specs.Setup.{begun_of, Begun, find_next_of, fresh_of};
+ghost use Rattle.find_setup.specs.Setup.{begun_of, Begun, find_next_of, FewRecords, searched, progress_of};
 
 use find_compare::Progress;
 use read_model::State;
@@ -44,11 +44,20 @@ pub fn again(ws: &mut [u32], b: State, n: usize, rmax: usize) -> Result<State, R
 
 // ---- the search
 
-// Where the search begins, over so many records, for so many glyphs.
-pub fn progress(records: usize, glyphs: usize, hmax: usize) -> Progress
-    requires { records ≤ 16777216 }
-    ensures { result ≡ fresh_of records glyphs hmax }
+// How many records are searched: none in a refusal.
+fn searched(d: State) -> usize
+    requires { FewRecords d }
+    ensures { (result ≡ searched d) × (result ≤ 16777216) }
 {
+    if d.refusal == 0 { d.records } else { 0 }
+}
+
+// Where the search begins, the last pass having ended at d, for so many glyphs.
+pub fn progress(d: State, glyphs: usize, hmax: usize) -> Progress
+    requires { FewRecords d }
+    ensures { result ≡ progress_of d glyphs hmax }
+{
+    let records = searched(d);
     Progress {
         left: records * 64,
         at: 0,

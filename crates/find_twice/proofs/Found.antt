@@ -11,6 +11,7 @@ use lib.ListN.{length, take, drop}
 use borrow.Author.Tests.{ne_eqb, le-ltb, ltb-false}
 use Rattle.rules.specs.declared.Refusal.{Refusal}
 use Rattle.rules.specs.declared.Record.{Record}
+use Rattle.rules.specs.declared.Finding.{Finding}
 use Rattle.rules.specs.declared.Entry.{Entry}
 use Rattle.rules.specs.Scan.{commands}
 use Rattle.rules.specs.State.{Env, start}
@@ -48,7 +49,7 @@ use Rattle.find_exact.proofs.Exact.{search_exact}
 use Rattle.find_ask.specs.Ask.{sizes_of, AsksWith, AsksIn, AsksOr, AsksFor}
 use Rattle.find_ask.proofs.Asking.{in_sizes}
 use Rattle.find_room.specs.Room.{hits_counted, too_many, room_of}
-use Rattle.find_setup.specs.Setup.{begun_of, Begun, find_next_of, fresh_of}
+use Rattle.find_setup.specs.Setup.{begun_of, Begun, find_next_of, fresh_of, progress_of}
 use Rattle.find_twice.proofs.Within.{pass_held}
 
 -- ---- an answer or a refusal
@@ -285,6 +286,7 @@ next_again b c n rmax false h = begun_is (again_of b n rmax b.entries 2) c h
 -- the records are in their row, and there is room for the hits
 pub record Done (s list fl q : List ℕ) (w : Question) (rs : List Record) (hs : List ℕ) (p₂ : ReadPass) : Type 0 where
   pub glyphs : List GlyphRow
+  pub clear : p₂.state.refusal ≡ 0
   pub count : p₂.state.records ≡ length glyphs
   pub records : p₂.records ≡ over (map record_of glyphs) rs
   pub fit : length glyphs ≤ length rs
@@ -449,6 +451,7 @@ module _ (s list fl q : List ℕ) (w : Question) (k : ℕ) (a : State) (ws₁ : 
             done_by : Done s list fl q w rs hs p₂
             done_by = record {
               glyphs = f.xs;
+              clear = filling.clear;
               count = filling.count ∙ (let e : 0 + length f.xs ≡ length f.xs = omega arith in e);
               records = filling.records ∙ rw kept (over_is (map record_of f.xs) rs (omega (arith, records_fit, length-map record_of f.xs)));
               fit = records_fit;
@@ -483,10 +486,14 @@ module _ (s list fl q : List ℕ) (w : Question) (k : ℕ) (a : State) (ws₁ : 
             abbrev fresh : Progress
             fresh = fresh_of p₂.state.records k (length hs)
 
+            -- nothing is refused, so all of the records are searched
+            fresh_is : progress_of p₂.state k (length hs) ≡ fresh
+            fresh_is = rw d.clear
+
             -- what the search asks
             search_sound : SearchReady (length p₂.records) (length hs) w fresh
             search_sound = record {
-              glyphs = omega (arith, many, o.count);
+              glyphs = λ z. omega (arith, many, o.count);
               good = λ z. record { few = few_sound; glyph = omega (arith, o.count, o.some); most = omega (arith, o.count, o.few); inside = let y : 0 < left_at p₂.state.records 0 0 = z in omega arith; left = refl };
               records = omega (arith, d.count, enough);
               hits = refl;
@@ -511,8 +518,8 @@ module _ (s list fl q : List ℕ) (w : Question) (k : ℕ) (a : State) (ws₁ : 
                   (search_exact s w p₂.records (length d.glyphs) enough hs (rw listed_is d.room) d.few (omega (arith, many, o.some)) (omega (arith, many, o.few)))
 
               -- and what is answered
-              finds_as : FindCall s list fl q rs hs (Ok (record { records = p₂.state.records; hits = l.state.hits })) p₂.records l.hits
-              finds_as = record {
+              accepted_as : FindCall s list fl q rs hs (Ok (record { records = p₂.state.records; hits = l.state.hits })) p₂.records l.hits
+              accepted_as = record {
                 answer = rw (d.answered, d.count, exact.1, listed_is);
                 records = rw d.answered d.records;
                 hits = rw d.answered (exact.0 ∙ ap (λ (i : List ℕ). over i hs) listed_is);
@@ -547,8 +554,77 @@ module _ (s list fl q : List ℕ) (w : Question) (k : ℕ) (a : State) (ws₁ : 
           pub progress_sound : p₂.state.records ≤ 16777216
           progress_sound = few_sound (Ok c) (goes_on (Ok c) e) c refl ws₂ m p₂ ends (there p₂ ends)
 
-          pub looking_sound : SearchReady (length p₂.records) (length hs) w (fresh_of p₂.state.records k (length hs))
-          looking_sound = search_sound (Ok c) (goes_on (Ok c) e) c refl ws₂ m p₂ ends (there p₂ ends)
+          pub progress_is : progress_of p₂.state k (length hs) ≡ fresh_of p₂.state.records k (length hs)
+          progress_is = fresh_is (Ok c) (goes_on (Ok c) e) c refl ws₂ m p₂ ends (there p₂ ends)
 
-          pub found_as : (l : Looked) → l ≡ search_of s w p₂.records (record { state = fresh_of p₂.state.records k (length hs); hits = hs }) → FindCall s list fl q rs hs (Ok (record { records = p₂.state.records; hits = l.state.hits })) p₂.records l.hits
-          found_as l looks = finds_as (Ok c) (goes_on (Ok c) e) c refl ws₂ m p₂ ends (there p₂ ends) l looks
+          pub looking_sound : SearchReady (length p₂.records) (length hs) w (progress_of p₂.state k (length hs))
+          looking_sound = subst (SearchReady (length p₂.records) (length hs) w) (sym progress_is) (search_sound (Ok c) (goes_on (Ok c) e) c refl ws₂ m p₂ ends (there p₂ ends))
+
+          pub found_as : (l : Looked) → l ≡ search_of s w p₂.records (record { state = progress_of p₂.state k (length hs); hits = hs }) → FindCall s list fl q rs hs (Ok (record { records = p₂.state.records; hits = l.state.hits })) p₂.records l.hits
+          found_as l looks = accepted_as (Ok c) (goes_on (Ok c) e) c refl ws₂ m p₂ ends (there p₂ ends) l (looks ∙ ap (λ (i : Progress). search_of s w p₂.records (record { state = i; hits = hs })) progress_is)
+
+-- ---- the whole way of a finding, with each place where it ends
+
+-- the sizes, both lists and the query are in order
+pub record InOrder (s list fl q : List ℕ) : Type 0 where
+  pub unit : Unit {0}
+  pub sized : Ok unit ≡ sizes_of fl q
+  pub first : State
+  pub scratch : List ℕ
+  pub begun : Begun s list (Ok first) scratch
+  pub table : Table
+  pub glyphs : List Sought
+  pub count : ℕ
+  pub asked : AsksFor fl q (Ok count) table glyphs
+  pub question : Question
+  pub poses : Poses q fl table glyphs count question
+
+-- the judging pass has run
+pub record Judged (s list fl q : List ℕ) (rs : List Record) : Type 0 where
+  pub order : InOrder s list fl q
+  pub entries : List Entry
+  pub pass : ReadPass
+  pub is : pass ≡ read_pass_of (find_in list order.first.fonts order.scratch) s (pass_from order.first order.scratch rs entries)
+
+-- there is room for the hits and the records, and the second pass has run
+pub record Filled (s list fl q : List ℕ) (rs : List Record) (hs : List ℕ) : Type 0 where
+  pub judged : Judged s list fl q rs
+  pub unit : Unit {0}
+  pub roomy : Ok unit ≡ room_of s judged.order.question judged.pass.state (length hs)
+  pub again : State
+  pub scratch : List ℕ
+  pub goes : Ok again ≡ find_next_of judged.pass.state (length s) (length judged.pass.records)
+  pub unmounted : Unmounted judged.pass.scratch scratch
+  pub pass : ReadPass
+  pub is : pass ≡ read_pass_of (find_in list again.fonts scratch) s (pass_from again scratch judged.pass.records judged.pass.entries)
+
+-- A finding ran, and gave this answer and left this in the rows: it was refused for the sizes of the family list or the query; for the
+-- stream's or the width list's size, or the width list; for the family list or the query; for the room of the hits; for the stream or the
+-- room of the records; or it went to its end.
+pub data Ran (s list fl q : List ℕ) (rs : List Record) (hs : List ℕ) : Result Finding Refusal → List Record → List ℕ → Type 0 where
+  at_sizes : (r : Refusal) → Err r ≡ sizes_of fl q → Ran s list fl q rs hs (Err r) rs hs
+  at_start : (u : Unit {0}) → Ok u ≡ sizes_of fl q → (ws : List ℕ) (r : Refusal) → Begun s list (Err r) ws → Ran s list fl q rs hs (Err r) rs hs
+  at_ask : (u : Unit {0}) → Ok u ≡ sizes_of fl q → (a : State) (ws : List ℕ) → Begun s list (Ok a) ws → (tab : Table) (gl : List Sought) (r : Refusal) → AsksFor fl q (Err r) tab gl
+      → Ran s list fl q rs hs (Err r) rs hs
+  at_room : (j : Judged s list fl q rs) (r : Refusal) → Err r ≡ room_of s j.order.question j.pass.state (length hs) → Ran s list fl q rs hs (Err r) j.pass.records hs
+  at_again : (j : Judged s list fl q rs) (v : Unit {0}) → Ok v ≡ room_of s j.order.question j.pass.state (length hs)
+      → (r : Refusal) → Err r ≡ find_next_of j.pass.state (length s) (length j.pass.records) → Ran s list fl q rs hs (Err r) j.pass.records hs
+  at_end : (f : Filled s list fl q rs hs) (l : Looked)
+      → l ≡ search_of s f.judged.order.question f.pass.records (record { state = progress_of f.pass.state f.judged.order.count (length hs); hits = hs })
+      → Ran s list fl q rs hs (Ok (record { records = f.pass.state.records; hits = l.state.hits })) f.pass.records l.hits
+
+module _ (s list fl q : List ℕ) (rs : List Record) (hs : List ℕ) where
+  asks_of : (o : InOrder s list fl q) → Asks s list fl q o.question o.count o.first o.scratch
+  asks_of o = asks_by s list fl q o.unit o.sized o.first o.scratch o.begun o.table o.glyphs o.count o.question o.poses o.asked
+
+  -- the answer and both rows are the rules' own, wherever it ended
+  pub finds_as : (x : Result Finding Refusal) (rs' : List Record) (hs' : List ℕ) → Ran s list fl q rs hs x rs' hs' → FindCall s list fl q rs hs x rs' hs'
+  finds_as _ _ _ (at_sizes r h) = refused_call s list fl q rs hs r (sizes_refused s list fl q r h)
+  finds_as _ _ _ (at_start u z ws r h) = refused_call s list fl q rs hs r (start_refused s list fl q u z ws r h)
+  finds_as _ _ _ (at_ask u z a ws b tab gl r h) = refused_call s list fl q rs hs r (ask_refused s list fl q u z ws a b tab gl r h)
+  finds_as _ _ _ (at_room j r h) = let o = j.order in room_refused s list fl q o.question o.count o.first o.scratch (asks_of o) rs j.entries hs j.pass j.is r h
+  finds_as _ _ _ (at_again j v y r h) = let o = j.order in again_refused s list fl q o.question o.count o.first o.scratch (asks_of o) rs j.entries hs j.pass j.is v y r h
+  finds_as _ _ _ (at_end f l h) =
+      let j = f.judged in
+      let o = j.order in
+      found_as s list fl q o.question o.count o.first o.scratch (asks_of o) rs j.entries hs j.pass j.is f.unit f.roomy f.again f.goes f.scratch f.unmounted f.pass f.is l h
