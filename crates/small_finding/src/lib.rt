@@ -6,7 +6,7 @@ ghost use Rattle.rules.specs.Answers.{find_into, finding_of, hits_over};
 
 use rules::{Finding, Refusal};
 use small_hits::{last_line, print_hits};
-use small_out::Out;
+use small_out::Printing;
 use small_program::Shown;
 use small_row::no_record;
 use std::io;
@@ -23,7 +23,7 @@ pub fn show(to: &impl Print, s: &[u8], list: &[u8], q: &[u8]) -> Shown<Finding>
 }
 
 fn print(to: &impl Print, hits: &[u32], answer: Result<Finding, Refusal>) -> io::Result<()> {
-    let mut out = Out::new(to);
+    let mut out = Printing::new(to);
     if let Ok(found) = answer {
         print_hits(&mut out, hits, found.hits)?;
     }

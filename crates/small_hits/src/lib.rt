@@ -2,7 +2,7 @@
 #![tactic(auto)]
 
 use rules::{Finding, Refusal};
-use small_text::put_refusal;
+use small_text::write_refusal;
 use std::io;
 use std::io::Write;
 
@@ -18,6 +18,6 @@ pub fn print_hits(out: &mut impl Write, row: &[u32], n: usize) -> io::Result<()>
 pub fn last_line(out: &mut impl Write, answer: Result<Finding, Refusal>) -> io::Result<()> {
     match answer {
         Ok(Finding { records, hits }) => writeln!(out, "found {records} {hits}"),
-        Err(refusal) => put_refusal(out, refusal),
+        Err(refusal) => write_refusal(out, refusal),
     }
 }

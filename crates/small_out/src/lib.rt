@@ -2,44 +2,80 @@
 // written to standard output: it is told as an error, with which the printing ends.
 #![tactic(auto)]
 
-use arrayvec::{ArrayString, ArrayVec};
+ghost use Rattle.std.specs.Prelude.{◌≡◌, None, OnOk, OnErr};
+ghost use Rattle.std.specs.Io.KnownBytes.{Keeps};
+ghost use Rattle.small_out.specs.Prefix.{IsPrefixLen};
+
+use arrayvec::ArrayString;
 use std::fmt::Write as _;
 use std::io;
 use std::io::Write as _;
 
-const BLOCK: usize = 1024;
+pub const BLOCK: usize = 1024;
+
+// What waits to be written: the first bytes of the block, all of them at most.
+#[derive(Clone, Copy)]
+pub struct Out {
+    pub used: usize,
+    pub block: [u8; BLOCK],
+}
+
+impl Out {
+    fn bytes(&self) -> &[u8] {
+        &self.block[..self.used.min(BLOCK)]
+    }
+
+    // As many bytes of the line as the block has room for, behind what waits.
+    fn take(&mut self, line: &[u8]) -> usize
+        ensures { IsPrefixLen result line.now }
+    {
+        let at = self.used.min(BLOCK);
+        let n = line.len().min(BLOCK - at);
+        self.block[at..at + n].copy_from_slice(&line[..n]);
+        self.used = at + n;
+        n
+    }
+}
 
 // Standard output, and what waits to be written to it.
 #[derive(Drop)]
-pub struct Out<'a, P: Print> {
+pub struct Printing<'a, P: Print> {
     to: &'a P,
-    waiting: ArrayVec<u8, BLOCK>,
+    waiting: Out,
 }
 
-impl<'a, P: Print> Out<'a, P> {
-    pub fn new(to: &'a P) -> Self {
-        Out {
+impl<'a, P: Print> Printing<'a, P> {
+    // Nothing waits at first.
+    pub fn new(to: &'a P) -> Self
+        ensures { result.waiting.used ≡ 0 }
+    {
+        Printing {
             to,
-            waiting: ArrayVec::new(),
+            waiting: Out {
+                used: 0,
+                block: [0; BLOCK],
+            },
         }
     }
 }
 
-impl<P: Print> io::Write for Out<'_, P> {
+impl<P: Print> io::Write for Printing<'_, P> {
     // As many bytes as the block has room for; a full block is written first.
     fn write(&mut self, line: &[u8]) -> io::Result<usize> {
-        if self.waiting.is_full() {
+        if BLOCK <= self.waiting.used {
             self.flush()?;
         }
-        let n = line.len().min(self.waiting.remaining_capacity());
-        self.waiting.try_extend_from_slice(&line[..n]).unwrap();
-        Ok(n)
+        Ok(self.waiting.take(line))
     }
 
-    // Writes what waits; an error where not all of it was taken.
-    fn flush(&mut self) -> io::Result<()> {
-        self.to.write_all(self.waiting.as_slice())?;
-        self.waiting.clear();
+    // Writes what waits; an error where not all of it was taken, and all of it waits still.
+    fn flush(&mut self) -> io::Result<()>
+        ensures bytes { Keeps None None }
+        ensures written { OnOk result (self.new.waiting.used ≡ 0) }
+        ensures kept { OnErr result (self.new.waiting ≡ self.old.waiting) }
+    {
+        self.to.write_all(self.waiting.bytes())?;
+        self.waiting.used = 0;
         Ok(())
     }
 }

@@ -2,7 +2,7 @@
 #![tactic(auto)]
 
 use rules::{Entry, Reading, Record, Refusal};
-use small_out::Out;
+use small_out::Printing;
 use small_print::print_row;
 use small_program::Shown;
 use small_record::last_line;
@@ -26,7 +26,7 @@ fn print(
     entries: &[Entry],
     answer: Result<Reading, Refusal>,
 ) -> io::Result<()> {
-    let mut out = Out::new(to);
+    let mut out = Printing::new(to);
     if let Ok(reading) = answer {
         print_row(&mut out, records, s, reading.records)?;
         print_row(&mut out, entries, s, reading.entries)?;

@@ -3,7 +3,7 @@
 
 use name::name_of;
 use rules::{Colour, Entry, Reading, Record, Refusal};
-use small_text::{put_letter, put_refusal};
+use small_text::{write_letter, write_refusal};
 use std::io;
 use std::io::Write;
 
@@ -51,7 +51,7 @@ impl Line for Entry {
         } = *self;
         out.write_all(b"entry ")?;
         for byte in [command, letter, scheme] {
-            put_letter(out, byte)?;
+            write_letter(out, byte)?;
         }
         writeln!(out, " {ordinal} {place} {len} {h} {v}")
     }
@@ -61,7 +61,7 @@ impl Line for Entry {
 pub fn last_line(out: &mut impl Write, answer: Result<Reading, Refusal>) -> io::Result<()> {
     match answer {
         Ok(reading) => put_end(out, reading),
-        Err(refusal) => put_refusal(out, refusal),
+        Err(refusal) => write_refusal(out, refusal),
     }
 }
 
@@ -84,6 +84,6 @@ fn put_end(out: &mut impl Write, reading: Reading) -> io::Result<()> {
 fn put_colour(out: &mut impl Write, colour: Colour) -> io::Result<()> {
     let [a, b, c, d] = colour.parts;
     out.write_all(b" ")?;
-    put_letter(out, colour.scheme)?;
+    write_letter(out, colour.scheme)?;
     write!(out, " {a} {b} {c} {d}")
 }

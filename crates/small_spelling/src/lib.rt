@@ -5,9 +5,9 @@ ghost use Rattle.std.specs.Prelude.{◌≡◌, length};
 ghost use Rattle.rules.specs.Answers.{respell_into, respelling_of, buffer_over};
 
 use rules::Refusal;
-use small_out::Out;
+use small_out::Printing;
 use small_program::Shown;
-use small_text::put_refusal;
+use small_text::write_refusal;
 use std::io;
 use std::io::Write;
 
@@ -37,7 +37,7 @@ fn print(to: &impl Print, answer: Result<usize, Refusal>, text: &[u8]) -> io::Re
 }
 
 fn print_refusal(to: &impl Print, refusal: Refusal) -> io::Result<()> {
-    let mut out = Out::new(to);
-    put_refusal(&mut out, refusal)?;
+    let mut out = Printing::new(to);
+    write_refusal(&mut out, refusal)?;
     out.flush()
 }
