@@ -4,13 +4,14 @@ use native.Mathlib.Omega.{arith}
 use mathlib.Core.List.{List, [], ◌∷◌, ◌++◌, append-nil}
 use mathlib.Core.Path.{◌≡◌, refl, sym, ap, ◌∙◌}
 use borrow.Author.Tests.{lt-ltb, le-ltb}
-use lib.ListN.{length, take, drop, set, length-set, length-drop}
+use lib.ListN.{length, take, drop, set, length-set, length-drop, length-append}
 use lib.Seq.{append_snoc, take_all, drop-set-lt, get_or-set_same}
 use Rattle.rules.specs.House.{digits_of, decimal}
 use Rattle.laws_scan.proofs.Walk.{cons_at}
 use Rattle.respell_model.specs.Sheet.{put_all, small}
 use Rattle.respell_model.proofs.Sheets.{small-most}
-use Rattle.respell_bytes.proofs.Putting.{sheet}
+use Rattle.respell_bytes.specs.Onward.{onward}
+use Rattle.respell_bytes.proofs.Putting.{sheet, text_out}
 
 digits_one : (i m : ℕ) → m ≤ 9 → digits_of i m ≡ (48 + m) ∷ []
 unfolding digits_of
@@ -90,3 +91,56 @@ module _ (n : ℕ) (ds : List ℕ) (i m : ℕ) (v : Digits n ds i m) where
   digits-put o q at r h e = e ∙ ap (λ (t : List ℕ). put_all t (sheet o at)) (digits_last h)
 
 pub ruleset writing = (digits-start, digits_place, digits_size, digits_room, digits_left, digits_less, digits-next, digits-put)
+
+-- ---- how many they are
+
+pow_some : (k : ℕ) → 1 ≤ 10 ^ k
+pow_some zero = omega arith
+pow_some (suc k) = omega (arith, pow_some k)
+
+-- a number from 10 ^ k up has one more than k
+digits_as_many : (i m k : ℕ) → k ≤ i → 10 ^ k ≤ m → m < 10 ^ suc k → length (digits_of i m) ≡ suc k
+digits_as_many i m zero h a b = rw (digits_one i m (omega arith)) refl
+digits_as_many zero m (suc k) h a b = absurd (omega arith)
+digits_as_many (suc i) m (suc k) h a b =
+    let more : 9 < m = let y : 1 ≤ 10 ^ k = pow_some k in omega (arith, y, a) in
+    let rest : length (digits_of i (m / 10)) ≡ suc k = digits_as_many i (m / 10) k (omega arith) (omega (arith, a)) (omega (arith, b)) in
+    rw (digits_more i m more) (length-append (digits_of i (m / 10)) ((48 + m % 10) ∷ []) ∙ omega (arith, rest))
+
+module _ (n m : ℕ) (e : m ≡ small n) where
+  abbrev As : ℕ → Type 0
+  As k = k ≡ length (decimal (small n))
+
+  as_many : (k : ℕ) → k ≤ 7 → 10 ^ k ≤ m → m < 10 ^ suc k → As (suc k)
+  unfolding decimal
+  as_many k h a b = rw (← e) (sym (digits_as_many 7 m k h a b))
+
+  pub count_1 : m ≤ 9 → As 1
+  unfolding decimal
+  count_1 h = rw (← e) (sym (ap length (digits_one 7 m h)))
+
+  pub count_2 : 10 ≤ m → m ≤ 99 → As 2
+  count_2 a b = as_many 1 (omega arith) (omega arith) (omega arith)
+
+  pub count_3 : 100 ≤ m → m ≤ 999 → As 3
+  count_3 a b = as_many 2 (omega arith) (omega arith) (omega arith)
+
+  pub count_4 : 1000 ≤ m → m ≤ 9999 → As 4
+  count_4 a b = as_many 3 (omega arith) (omega arith) (omega arith)
+
+  pub count_5 : 10000 ≤ m → m ≤ 99999 → As 5
+  count_5 a b = as_many 4 (omega arith) (omega arith) (omega arith)
+
+  pub count_6 : 100000 ≤ m → m ≤ 999999 → As 6
+  count_6 a b = as_many 5 (omega arith) (omega arith) (omega arith)
+
+  pub count_7 : 1000000 ≤ m → m ≤ 9999999 → As 7
+  count_7 a b = as_many 6 (omega arith) (omega arith) (omega arith)
+
+  pub count_8 : 10000000 ≤ m → As 8
+  count_8 a = as_many 7 (omega arith) (omega arith) (omega (arith, e, small-most n))
+
+pub digits_out : (n : ℕ) (o : List ℕ) (at r count : ℕ) → length o ≤ at → count ≡ length (decimal n) → r ≡ onward count at → sheet o r ≡ put_all (decimal n) (sheet o at)
+digits_out n o at r count h c e = text_out (decimal n) o at r h (e ∙ ap (λ (k : ℕ). onward k at) c)
+
+pub ruleset counting = (count_1, count_2, count_3, count_4, count_5, count_6, count_7, count_8, digits_out)

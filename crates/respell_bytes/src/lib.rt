@@ -2,7 +2,7 @@
 // that one code measures a spelling and writes it. The count goes no further than one past the longest spelling.
 #![tactic(auto)]
 
-ghost use Rattle.std.specs.Prelude.{◌≡◌, ◌<◌};
+ghost use Rattle.std.specs.Prelude.{◌≡◌, ◌<◌, length};
 ghost use Rattle.rules.specs.House.{decimal};
 ghost use Rattle.respell_model.specs.Sheet.{further, small, signed_small};
 ghost use Rattle.respell_bytes.specs.Onward.{onward};
@@ -38,6 +38,23 @@ fn small(n: u32) -> u32
     if n < 100_000_000 { n } else { 0 }
 }
 
+// How many digits it has.
+#[tactic(auto, using(crate::proofs::Digits::counting))]
+fn digit_count(n: u32) -> usize
+    ensures { result ≡ length (decimal (small n)) }
+{
+    match small(n) {
+        0..=9 => 1,
+        10..=99 => 2,
+        100..=999 => 3,
+        1_000..=9_999 => 4,
+        10_000..=99_999 => 5,
+        100_000..=999_999 => 6,
+        1_000_000..=9_999_999 => 7,
+        _ => 8,
+    }
+}
+
 impl<'a> Sheet<'a> {
     pub fn put(&mut self, b: u8)
         ensures { PutsByte b self.old self.new }
@@ -62,10 +79,14 @@ impl<'a> Sheet<'a> {
         }
     }
 
-    // Its digits, as few as can be.
+    // Its digits, as few as can be. Behind the buffer their number is all that counts.
     pub fn put_decimal(&mut self, n: u32)
         ensures { Puts (decimal (small n)) self.old self.new }
     {
+        if self.bytes.len() <= self.at {
+            self.at = onward(self.at, digit_count(n));
+            return;
+        }
         let mut digits = [0u8; 8];
         let mut i = 7;
         let mut m = small(n);

@@ -1,5 +1,5 @@
 use borrow.Author.Rules.{rules}
-use Rattle.respell_bytes.proofs.Digits.{writing}
+use Rattle.respell_bytes.proofs.Digits.{writing, counting}
 use Rattle.respell_bytes.proofs.Sheet.put_decimal.Goals as goal
 
 pub loop-m-init : goal.loop-m-init
@@ -10,3 +10,6 @@ loop-m-preserved c = search (rules, writing)
 
 pub returns : goal.returns
 returns c = search (rules, writing)
+
+pub returns-then-self : goal.returns-then-self
+returns-then-self c = search (rules, counting)
