@@ -1,6 +1,6 @@
 #!/usr/bin/env bash
-# The example of the guide, examples/find.c, compiled against the library that ./build makes, and run on the sample rulings; and the
-# commands of README.md, which must print what it says.
+# The names that the library that ./build makes needs from outside; the example of the guide, examples/find.c, compiled against it, and run
+# on the sample rulings; and the commands of README.md, which must print what it says.
 set -u
 cd "$(dirname "$0")/.." || exit 2
 work=$(mktemp -d)
@@ -39,6 +39,10 @@ run_by_families() { # CASE QUERY FAMILIES STATUS EXPECTED
     "$work/find" samples/ruling-2.out samples/ruling.widths "$work/query" "$work/families" > "$work/out"
     compare "$1" $? "$4" "$5"
 }
+
+# What a caller without a C library has to bring: `nm` names each undefined name once an archive member.
+[ "$(nm -u target/lib/libmrkvandel.a | sed -n 's/^ *U //p' | sort -u)" = memset ]
+count 'the library needs memset alone from outside' $?
 
 cc -std=c11 -pedantic -Wall -Wextra -Werror -Iinclude examples/find.c target/lib/libmrkvandel.a -o "$work/find"
 count 'compiles without a warning' $?

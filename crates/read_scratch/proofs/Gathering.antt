@@ -6,7 +6,7 @@ use mathlib.Core.List.{List, ◌++◌}
 use mathlib.Core.Path.{◌≡◌, refl, sym, ap, subst, ◌∙◌}
 use lib.Dec.{ltb}
 use lib.ListN.{length, take, drop, get_or, set, length-set, length-take, length-drop, length-append, get_or-append}
-use Rattle.std.proofs.lemmas.List.{get_or-append_right}
+use Rattle.std.proofs.lemmas.List.{get_or-append_right, ext_get_or}
 use lib.Seq.{get_or-set_same, get_or-set_other, get_or-take, get_or-drop}
 use borrow.Author.Tests.{ltb-true, ltb-false}
 use borrow.Rule.Slice.PartMut.{put_mid, same_len_mid}
@@ -22,7 +22,7 @@ use Rattle.widths_table.specs.Blocks.{no_block, BlocksOf}
 use Rattle.widths_table.specs.Table.{TableOf}
 use Rattle.widths_table.proofs.Bounds.{sound_entry, sound_few}
 use Rattle.read_turn.specs.Ready.{Scratch}
-use Rattle.read_scratch.specs.Scratch.{Gathered, ScratchOf, Holding, Unmounted}
+use Rattle.read_scratch.specs.Scratch.{IsEmpty, Gathered, ScratchOf, Holding, Unmounted}
 
 -- ---- a part of a row, written
 module _ (xs ys : List ℕ) (a m : ℕ) (h : a + m ≤ length xs) (l : length ys ≡ m) where
@@ -45,6 +45,40 @@ module _ (xs ys : List ℕ) (a m : ℕ) (h : a + m ≤ length xs) (l : length ys
       sym (get_or-drop a (put_mid a m xs ys) i 0)
       ∙ sym (get_or-take m (drop a (put_mid a m xs ys)) i 0 q)
       ∙ ap (λ (z : List ℕ). get_or z i 0) (rw e at (between-put_mid a m xs ys (a + m) (omega arith) (omega arith)))
+
+-- ---- a font's widths
+-- the part of the row where the first b of them stand
+pub record Copied (widths : List ℕ) (b : ℕ) (part : List ℕ) : Type 0 where
+  pub size : length part ≡ 256
+  pub there : (i : ℕ) → i < b → get_or part i 0 ≡ get_or widths i 0
+  pub empty : (i : ℕ) → b ≤ i → get_or part i 0 ≡ 0
+
+module _ (widths part : List ℕ) where
+  pub copied_start : length part ≡ 256 → IsEmpty part → Copied widths 0 part
+  copied_start n e = record { size = n; there = λ i h. absurd (omega arith); empty = λ i h. e i }
+
+  pub copied_end : length widths ≡ 256 → (b : ℕ) → 256 ≤ b → Copied widths b part → part ≡ widths
+  copied_end n b h v = ext_get_or 0 part widths (v.size ∙ sym n) (λ i l. v.there i (omega (arith, v.size)))
+
+  module _ (b : ℕ) (v : Copied widths b part) where
+    there_then : (q : List ℕ) → ((i : ℕ) → i < b → get_or q i 0 ≡ get_or widths i 0) → get_or q b 0 ≡ get_or widths b 0 → (i : ℕ) → i < b + 1 → get_or q i 0 ≡ get_or widths i 0
+    there_then q f e i h = below_more (λ (i : ℕ). get_or q i 0 ≡ get_or widths i 0) b f e i h
+
+    pub copied_none : get_or widths b 0 ≡ 0 → Copied widths (b + 1) part
+    copied_none e = record {
+      size = v.size;
+      there = there_then part v.there (v.empty b (omega arith) ∙ sym e);
+      empty = λ i h. v.empty i (omega arith);
+    }
+
+    pub copied_one : (x : ℕ) → b < 256 → x ≡ get_or widths b 0 → Copied widths (b + 1) (set part b x)
+    copied_one x l e = record {
+      size = length-set part b x ∙ v.size;
+      there = there_then (set part b x) (λ i h. get_or-set_other part b i x 0 (λ (z : i ≡ b). omega arith) ∙ v.there i h) (get_or-set_same part b x 0 (omega (arith, v.size)) ∙ e);
+      empty = λ i h. get_or-set_other part b i x 0 (λ (z : i ≡ b). omega arith) ∙ v.empty i (omega arith);
+    }
+
+pub ruleset copying = (copied_start, copied_end, copied_none, copied_one)
 
 -- ---- font by font
 module _ (table : List Block) (k : ℕ) (ws ys : List ℕ) (m p l : ℕ) (g : Gathered table k ws) (few : k < 32) (em : m ≡ 256) (long : length ys ≡ 256) where

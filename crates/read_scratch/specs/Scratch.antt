@@ -6,6 +6,10 @@ use Rattle.widths_table.specs.Blocks.{no_block}
 use Rattle.widths_table.specs.Table.{TableOf, NamesOf}
 use Rattle.read_turn.specs.Ready.{Scratch}
 
+-- a part of the row in which nothing stands yet
+abbrev pub IsEmpty : List ℕ → Type 0
+IsEmpty part = (i : ℕ) → get_or part i 0 ≡ 0
+
 -- the row of so many fonts: the mounts, the fonts' widths, an empty block, the names' places, their lengths
 pub record Gathered (table : List Block) (fonts : ℕ) (ws : List ℕ) : Type 0 where
   pub size : length ws ≡ 8768

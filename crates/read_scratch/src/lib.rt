@@ -5,7 +5,7 @@ ghost use Rattle.std.specs.Prelude.{◌≡◌, ◌≤◌, length};
 ghost use Rattle.rules.specs.Widths.{width_list};
 ghost use Rattle.widths.specs.Table.{list_of};
 ghost use Rattle.read_turn.specs.Ready.{Scratch};
-ghost use Rattle.read_scratch.specs.Scratch.{Gathered, Holding, Unmounted};
+ghost use Rattle.read_scratch.specs.Scratch.{IsEmpty, Gathered, Holding, Unmounted};
 
 use rules::Refusal;
 use widths::Sound;
@@ -18,6 +18,22 @@ pub fn room() -> [u32; 8768]
     [0u32; 8768]
 }
 
+// A font's widths into its part of the row, where nothing stands yet. Those that there are alone: a plain copy is made by the C
+// library's `memcpy`, which the archives for C would need from outside.
+#[tactic(auto, using(crate::proofs::Gathering::copying))]
+fn put_widths(part: &mut [u32], widths: &[u32; 256])
+    requires size { length part.old ≡ 256 }
+    requires empty { IsEmpty part.old }
+    ensures long { length part.new ≡ 256 }
+    ensures copied { part.new ≡ widths.now }
+{
+    for (b, width) in widths.iter().enumerate() {
+        if *width != 0 {
+            part[b] = *width;
+        }
+    }
+}
+
 // The mounts, the fonts' widths, an empty block, the names' places, their lengths. Only the fonts that there are have widths and names:
 // what the table holds behind them is not known.
 fn gather(ws: &mut [u32], table: &Table, fonts: usize)
@@ -27,7 +43,7 @@ fn gather(ws: &mut [u32], table: &Table, fonts: usize)
     ws.fill(0);
     for (k, block) in table[..fonts].iter().enumerate() {
         let start = 256 + k * 256;
-        ws[start..start + 256].copy_from_slice(&block.widths);
+        put_widths(&mut ws[start..start + 256], &block.widths);
         ws[8704 + k] = block.name.place;
         ws[8736 + k] = block.name.len;
     }

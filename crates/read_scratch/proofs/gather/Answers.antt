@@ -1,7 +1,7 @@
 use Prim.Native.Nat.{◌+◌, ◌*◌, ◌-◌, ◌<◌}
 use native.Mathlib.Omega.{arith}
 use mathlib.Core.Path.{◌≡◌, ap, ◌∙◌}
-use lib.ListN.{drop, length-take, length-drop}
+use lib.ListN.{length-take}
 use lib.Seq.{get_or-take}
 use Rattle.widths_table.specs.declared.Block.{Block}
 use Rattle.widths_table.specs.Blocks.{no_block}
@@ -14,7 +14,6 @@ loop-k-preserved c =
     let l : k < c.args.fonts = omega (arith, length-take c.args.fonts c.args.table.now) in
     let m : 256 + k * 256 + 256 - (256 + k * 256) ≡ 256 = omega arith in
     let e = get_or-take c.args.fonts c.args.table.now k no_block l in
-    let s = length-take (256 + k * 256 + 256 - (256 + k * 256)) (drop (256 + k * 256) c.loop-k.ws) in
-    gathered_more c.args.table.now k c.loop-k.ws c.copy_from_slice.new.self _ _ _ c.loop-k.invariant (omega arith) m
-    (omega (arith, s, length-drop (256 + k * 256) c.loop-k.ws, c.copy_from_slice.ensures.len, c.loop-k.invariant.size))
-    (c.copy_from_slice.ensures.after ∙ ap (λ (b : Block). b.widths) e) (ap (λ (b : Block). b.name.place) e) (ap (λ (b : Block). b.name.len) e)
+    gathered_more c.args.table.now k c.loop-k.ws c.put_widths.new.part _ _ _ c.loop-k.invariant (omega arith) m
+    c.put_widths.ensures.long
+    (c.put_widths.ensures.copied ∙ ap (λ (b : Block). b.widths) e) (ap (λ (b : Block). b.name.place) e) (ap (λ (b : Block). b.name.len) e)
