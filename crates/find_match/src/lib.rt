@@ -73,8 +73,8 @@ fn gap_test(asked: Gap, gap: u32) -> Result<(), Mismatch>
 impl Question<'_> {
     // Whether a record's own name, a part of the stream, matches the name of a glyph: it is that name, or one of its family.
     #[tactic(auto, unfolding(rules::specs::Families::is_in))]
-    fn is_named(&self, own: &[u8], glyph: Sought) -> bool
-        ensures { result ≡ same_name own.now (sought_in self.now glyph) }
+    fn is_named(&self, own: &[u8], glyph: &Sought) -> bool
+        ensures { result ≡ same_name own.now (sought_in self.now glyph.now) }
     {
         let wanted = name::name_at(self.query, glyph.place as usize, glyph.len as usize);
         if scan_lex::same_bytes(own, wanted) {
@@ -94,7 +94,7 @@ impl Question<'_> {
         if key.ordinal != page {
             return Err(Mismatch::OtherPage);
         }
-        let glyph = self.glyphs[j];
+        let glyph = &self.glyphs[j];
         if self.is_named(name::name_at(s, key.place, key.len), glyph) {
             gap_test(glyph.gap, key.gap)
         } else {
