@@ -94,12 +94,15 @@ pub fn say(to: &impl Print, text: &[u8]) {
 // Longer than the system's text of any error with its number.
 const ERROR: usize = 320;
 
-// Says a line: what failed, as the caller names it, a colon and the error's text without its number.
+// Says a line: what failed, as the caller names it, a colon and the error's text without its number. Each piece is a write of its own, so
+// that one which fails leaves out itself alone.
 pub fn fail(to: &impl Print, what: &[u8], error: io::Error) {
     let mut text = ArrayString::<ERROR>::new();
     let _ = write!(text, "{error}");
     say(to, what);
-    let _ = println!(to; ": {}", words(text.as_str()));
+    say(to, b": ");
+    say(to, words(text.as_str()).as_bytes());
+    say(to, b"\n");
 }
 
 fn words(text: &str) -> &str {

@@ -1,11 +1,17 @@
 // The lines of a record, of an entry and of the end of a stream, each in the order of its fields.
 #![tactic(auto)]
 
+use arrayvec::ArrayString;
 use name::name_of;
 use rules::{Colour, Entry, Reading, Record, Refusal};
 use small_text::{write_letter, write_refusal};
+use std::fmt::Write as _;
 use std::io;
 use std::io::Write;
+
+// Longer than what a line has of numbers, ten of at most 11 bytes: they are put together before they are written, since a piece that is
+// written by itself costs an `io::Result` of its own.
+const NUMBERS: usize = 128;
 
 // What is printed as a line, read of the stream s. No `Display`, since a name is bytes of the stream, which may be no text.
 pub trait Line {
@@ -27,10 +33,12 @@ impl Line for Record {
             index,
             gap,
         } = *self;
-        write!(
-            out,
+        let mut line = ArrayString::<NUMBERS>::new();
+        let _ = write!(
+            line,
             "glyph {ordinal} {page} {h} {v} {font} {size} {gap} {index} {place} {len} "
-        )?;
+        );
+        out.write_all(line.as_str().as_bytes())?;
         out.write_all(name_of(s, *self))?;
         out.write_all(b"\n")
     }
@@ -53,7 +61,9 @@ impl Line for Entry {
         for byte in [command, letter, scheme] {
             write_letter(out, byte)?;
         }
-        writeln!(out, " {ordinal} {place} {len} {h} {v}")
+        let mut line = ArrayString::<NUMBERS>::new();
+        let _ = writeln!(line, " {ordinal} {place} {len} {h} {v}");
+        out.write_all(line.as_str().as_bytes())
     }
 }
 
