@@ -14,7 +14,7 @@ use Rattle.find_compare.specs.declared.Progress.{Progress}
 use Rattle.find_compare.specs.declared.Fed.{Fed}
 use Rattle.find_match.specs.declared.Question.{Question}
 use Rattle.find_compare.specs.Compare.{next_record, next_glyph, page_of, fits_at, passed, hit_at, fitted, feed_of, SearchGood}
-use Rattle.find_search.specs.Search.{blank, hits_after, Looked, search_step_of, search_for, search_of, SearchReady}
+use Rattle.find_search.specs.Search.{blank, hits_after, Looked, search_step_of, search_for, search_of, SearchReady, SearchReadyOrDone}
 
 -- what a turn gives to the row lies within the room
 abbrev pub InRow : Progress → Option ℕ → Type 0
@@ -79,6 +79,35 @@ hits_length : (hits : List ℕ) (k : ℕ) (a : Option ℕ) → length (hits_afte
 hits_length hits k (Some i) = length-set hits k i
 hits_length hits k None = refl
 
+-- `records` by arithmetic, so that a search over one record too many is refused where a search begins, and not here
+pub ready_or_done : (n h : ℕ) (w : Question) (st : Progress) → SearchReady n h w st → SearchReadyOrDone n h w st
+ready_or_done n h w st r = record { glyphs = λ z. r.glyphs; good = r.good; records = omega (arith, r.records); hits = r.hits }
+
+-- a turn keeps the number of glyphs
+module _ (st : Progress) where
+  abbrev AsMany : Fed → Type 0
+  AsMany x = x.state.glyphs ≡ st.glyphs
+
+  hit_as_many : AsMany (hit_at st)
+  hit_as_many = if_both AsMany (ltb st.hits st.hmax) (record { hit = Some st.at; state = next_record st (st.hits + 1) }) (passed st) refl refl
+
+  fitted_as_many : (page : ℕ) → AsMany (fitted st page)
+  fitted_as_many page =
+      if_both AsMany (eqb (st.glyph + 1) st.glyphs) (hit_at st) _ hit_as_many
+      (if_both AsMany (ltb (st.at + st.glyph + 1) st.records) (record { hit = None; state = next_glyph st page }) (passed st) refl refl)
+
+  fed_as_many : (s : List ℕ) (w : Question) (r : Record) → AsMany (feed_of s w st r)
+  unfolding feed_of
+  fed_as_many s w r = if_both AsMany (fits_at s w st r) (fitted st (page_of st r)) (passed st) (fitted_as_many (page_of st r)) refl
+
+-- and so does a search
+pub search_glyphs : (k : ℕ) (s : List ℕ) (w : Question) (recs : List Record) (p : Looked) → (search_for k s w recs p).state.glyphs ≡ p.state.glyphs
+unfolding search_for
+search_glyphs zero s w recs p = refl
+search_glyphs (suc k) s w recs p =
+    if_both (λ (q : Looked). q.state.glyphs ≡ p.state.glyphs) (eqb p.state.left 0) p (search_for k s w recs (search_step_of s w recs p)) refl
+    (search_glyphs k s w recs (search_step_of s w recs p) ∙ fed_as_many p.state s w (get_or recs (p.state.at + p.state.glyph) blank))
+
 module _ (s : List ℕ) (w : Question) (recs : List Record) (p₀ : Looked) where
   pub record Known (k : ℕ) (p : Looked) : Type 0 where
     pub runs : search_for k s w recs p ≡ search_of s w recs p₀
@@ -89,8 +118,14 @@ module _ (s : List ℕ) (w : Question) (recs : List Record) (p₀ : Looked) wher
     pub glyphs : 0 < p.state.left → p.state.glyphs ≤ length w.glyphs.now
     pub same : length p.hits ≡ length p₀.hits
 
-  pub first_known : SearchReady (length recs) (length p₀.hits) w p₀.state → Known p₀.state.left p₀
+  pub first_known : SearchReadyOrDone (length recs) (length p₀.hits) w p₀.state → Known p₀.state.left p₀
   first_known h = record { runs = refl; few = omega arith; good = h.good; records = h.records; hmax = h.hits; glyphs = h.glyphs; same = refl }
+
+  -- a search that began ready has all of its glyphs, wherever it stands
+  pub known_glyphs : SearchReady (length recs) (length p₀.hits) w p₀.state → (k : ℕ) (p : Looked) → Known k p → p.state.glyphs ≤ length w.glyphs.now
+  known_glyphs h k p kn =
+      let e : p.state.glyphs ≡ p₀.state.glyphs = sym (search_glyphs k s w recs p) ∙ ap (λ (q : Looked). q.state.glyphs) kn.runs ∙ search_glyphs p₀.state.left s w recs p₀ in
+      omega (arith, e, h.glyphs)
 
   module _ (k : ℕ) (p : Looked) (kn : Known k p) (going : 0 < p.state.left) where
     -- the record that is asked for is there

@@ -5,6 +5,7 @@ use Rattle.find_match.specs.declared.Question.{Question}
 use Rattle.find_compare.specs.declared.Progress.{Progress}
 use Rattle.find_compare.specs.declared.Fed.{Fed}
 use Rattle.find_compare.specs.Compare.{feed_of, SearchGood}
+pub use Rattle.find_search.specs.Ready.{SearchReady}
 
 abbrev pub blank : Record
 blank = record { ordinal = 0; page = pos 0; h = pos 0; v = pos 0; font = 0; size = 0; place = 0; len = 0; index = 0; gap = 0 }
@@ -31,8 +32,8 @@ search_for (suc f) s w recs p = let more = search_for f s w recs (search_step_of
 abbrev pub search_of : List ℕ → Question → List Record → Looked → Looked
 search_of s w recs p = search_for p.state.left s w recs p
 
--- a search over rows of n records and h hits
-pub record SearchReady (n h : ℕ) (w : Question) (st : Progress) : Type 0 where
+-- a search over rows of n records and h hits; of the glyphs nothing is asked where nothing is left to search
+pub record SearchReadyOrDone (n h : ℕ) (w : Question) (st : Progress) : Type 0 where
   pub glyphs : 0 < st.left → st.glyphs ≤ length w.glyphs.now
   pub good : 0 < st.left → SearchGood st
   pub records : st.records ≤ n

@@ -2,7 +2,7 @@
 #![tactic(auto)]
 
 ghost use Rattle.std.specs.Prelude.{◌≡◌, length};
-ghost use Rattle.find_search.specs.Search.{search_of, SearchReady};
+ghost use Rattle.find_search.specs.Search.{search_of, SearchReadyOrDone};
 
 use find_compare::Progress;
 use find_match::Question;
@@ -16,7 +16,7 @@ pub fn search(
     question: &Question<'_>,
     from: Progress,
 ) -> Progress
-    requires { SearchReady (length row.now) (length hits.old) question.now from }
+    requires { SearchReadyOrDone (length row.now) (length hits.old) question.now from }
     ensures { record { state = result; hits = hits.new } ≡ search_of s.now question.now row.now (record { state = from; hits = hits.old }) }
 {
     let mut st = from;

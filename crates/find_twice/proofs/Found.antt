@@ -44,7 +44,8 @@ use Rattle.find_keys.proofs.Outlines.{all_keys}
 use Rattle.find_keys.proofs.Hits.{hits_few}
 use Rattle.find_compare.specs.declared.Progress.{Progress}
 use Rattle.find_compare.specs.Compare.{left_at}
-use Rattle.find_search.specs.Search.{Looked, search_of, SearchReady}
+use Rattle.find_search.specs.Search.{Looked, search_of, SearchReady, SearchReadyOrDone}
+use Rattle.find_search.proofs.Looking.{ready_or_done}
 use Rattle.find_exact.proofs.Exact.{search_exact}
 use Rattle.find_ask.specs.Ask.{sizes_of, AsksWith, AsksIn, AsksOr, AsksFor}
 use Rattle.find_ask.proofs.Asking.{in_sizes}
@@ -490,10 +491,10 @@ module _ (s list fl q : List ℕ) (w : Question) (k : ℕ) (a : State) (ws₁ : 
             fresh_is : progress_of p₂.state k (length hs) ≡ fresh
             fresh_is = rw d.clear
 
-            -- what the search asks
+            -- the search is ready, which is more than it asks
             search_sound : SearchReady (length p₂.records) (length hs) w fresh
             search_sound = record {
-              glyphs = λ z. omega (arith, many, o.count);
+              glyphs = omega (arith, many, o.count);
               good = λ z. record { few = few_sound; glyph = omega (arith, o.count, o.some); most = omega (arith, o.count, o.few); inside = let y : 0 < left_at p₂.state.records 0 0 = z in omega arith; left = refl };
               records = omega (arith, d.count, enough);
               hits = refl;
@@ -557,8 +558,11 @@ module _ (s list fl q : List ℕ) (w : Question) (k : ℕ) (a : State) (ws₁ : 
           pub progress_is : progress_of p₂.state k (length hs) ≡ fresh_of p₂.state.records k (length hs)
           progress_is = fresh_is (Ok c) (goes_on (Ok c) e) c refl ws₂ m p₂ ends (there p₂ ends)
 
-          pub looking_sound : SearchReady (length p₂.records) (length hs) w (progress_of p₂.state k (length hs))
-          looking_sound = subst (SearchReady (length p₂.records) (length hs) w) (sym progress_is) (search_sound (Ok c) (goes_on (Ok c) e) c refl ws₂ m p₂ ends (there p₂ ends))
+          pub looking_sound : SearchReady (length p₂.records) (length hs) w (fresh_of p₂.state.records k (length hs))
+          looking_sound = search_sound (Ok c) (goes_on (Ok c) e) c refl ws₂ m p₂ ends (there p₂ ends)
+
+          pub looking_ready : SearchReadyOrDone (length p₂.records) (length hs) w (progress_of p₂.state k (length hs))
+          looking_ready = rw progress_is (ready_or_done (length p₂.records) (length hs) w (fresh_of p₂.state.records k (length hs)) looking_sound)
 
           pub found_as : (l : Looked) → l ≡ search_of s w p₂.records (record { state = progress_of p₂.state k (length hs); hits = hs }) → FindCall s list fl q rs hs (Ok (record { records = p₂.state.records; hits = l.state.hits })) p₂.records l.hits
           found_as l looks = accepted_as (Ok c) (goes_on (Ok c) e) c refl ws₂ m p₂ ends (there p₂ ends) l (looks ∙ ap (λ (i : Progress). search_of s w p₂.records (record { state = i; hits = hs })) progress_is)

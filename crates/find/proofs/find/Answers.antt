@@ -3,7 +3,7 @@ use Rattle.std.proofs.Common.{◌≡◌}
 use Rattle.std.specs.Prelude.{Err}
 use borrow.Author.Rules.{rules}
 use Rattle.read_twice.proofs.Twice.{pass_from}
-use Rattle.find_twice.proofs.Found.{start_sound, posed_as, asks_by, left_scratch, pass_sound, progress_sound, looking_sound, at_sizes, at_start, at_ask, at_room, at_again, at_end, finds_as}
+use Rattle.find_twice.proofs.Found.{start_sound, posed_as, asks_by, left_scratch, pass_sound, progress_sound, looking_ready, at_sizes, at_start, at_ask, at_room, at_again, at_end, finds_as}
 use Rattle.find.proofs.find.Goals as goal
 
 pub returns-in_err-in_size : goal.returns-in_err-in_size
@@ -87,7 +87,7 @@ progress-from-requires c = λ z. progress_sound c.args.s.now c.args.list.now c.a
     (pass_from c.pass-d.result c.pass-d.new.ws c.pass-d.new.records c.pass-d.new.entries) c.pass-d.ensures
 
 pub search-e-requires : goal.search-e-requires
-search-e-requires c = rw c.progress-from.ensures (looking_sound c.args.s.now c.args.list.now c.args.fl.now c.args.q.now c.posed-question.result c.in_ok-count.count c.in_ok-a.a c.start.new.ws
+search-e-requires c = rw c.progress-from.ensures (looking_ready c.args.s.now c.args.list.now c.args.fl.now c.args.q.now c.posed-question.result c.in_ok-count.count c.in_ok-a.a c.start.new.ws
     (asks_by c.args.s.now c.args.list.now c.args.fl.now c.args.q.now c.in_ok-in_size.field-0 c.in_ok-in_size.ensures c.in_ok-a.a c.start.new.ws c.in_ok-a.ensures c.ask.new.table c.ask.new.glyphs c.in_ok-count.count c.posed-question.result (posed_as c.ask.new.table c.ask.new.glyphs c.in_ok-count.count c.posed-question.result c.posed-question.ensures.query c.posed-question.ensures.families c.posed-question.ensures.table c.posed-question.ensures.glyphs) c.in_ok-count.ensures)
     c.args.records.now _ c.args.hits.now (pass_from c.pass-b.result c.pass-b.new.ws c.pass-b.new.records c.pass-b.new.entries) c.pass-b.ensures
     c.in_ok-room.field-0 c.in_ok-room.ensures c.in_ok-c.c c.in_ok-c.ensures.0 c.again.new.ws c.in_ok-c.ensures.1
