@@ -7,7 +7,7 @@ use mathlib.Core.List.{List}
 use mathlib.Core.Path.{◌≡◌, refl, sym, ap, ◌∙◌}
 use lib.Dec.{ltb, eqb}
 use lib.ListN.{length, get_or, length-set}
-use borrow.Author.Tests.{eq-eqb, ne_eqb, ltb-true}
+use borrow.Author.Tests.{eq-eqb, eqb-false, ne_eqb, ltb-true}
 use Rattle.rules.specs.declared.Record.{Record}
 use Rattle.laws.proofs.Cases.{if_on, if_both, on, no as impossible}
 use Rattle.find_compare.specs.declared.Progress.{Progress}
@@ -83,30 +83,16 @@ hits_length hits k None = refl
 pub ready_or_done : (n h : ℕ) (w : Question) (st : Progress) → SearchReady n h w st → SearchReadyOrDone n h w st
 ready_or_done n h w st r = record { glyphs = λ z. r.glyphs; good = r.good; records = omega (arith, r.records); hits = r.hits }
 
--- a turn keeps the number of glyphs
-module _ (st : Progress) where
-  abbrev AsMany : Fed → Type 0
-  AsMany x = x.state.glyphs ≡ st.glyphs
-
-  hit_as_many : AsMany (hit_at st)
-  hit_as_many = if_both AsMany (ltb st.hits st.hmax) (record { hit = Some st.at; state = next_record st (st.hits + 1) }) (passed st) refl refl
-
-  fitted_as_many : (page : ℕ) → AsMany (fitted st page)
-  fitted_as_many page =
-      if_both AsMany (eqb (st.glyph + 1) st.glyphs) (hit_at st) _ hit_as_many
-      (if_both AsMany (ltb (st.at + st.glyph + 1) st.records) (record { hit = None; state = next_glyph st page }) (passed st) refl refl)
-
-  fed_as_many : (s : List ℕ) (w : Question) (r : Record) → AsMany (feed_of s w st r)
-  unfolding feed_of
-  fed_as_many s w r = if_both AsMany (fits_at s w st r) (fitted st (page_of st r)) (passed st) (fitted_as_many (page_of st r)) refl
-
--- and so does a search
-pub search_glyphs : (k : ℕ) (s : List ℕ) (w : Question) (recs : List Record) (p : Looked) → (search_for k s w recs p).state.glyphs ≡ p.state.glyphs
+-- a search keeps the number of glyphs
+pub search_glyphs : (k : ℕ) (s : List ℕ) (w : Question) (recs : List Record) (p : Looked) → (0 < p.state.left → SearchGood p.state) → (search_for k s w recs p).state.glyphs ≡ p.state.glyphs
 unfolding search_for
-search_glyphs zero s w recs p = refl
-search_glyphs (suc k) s w recs p =
-    if_both (λ (q : Looked). q.state.glyphs ≡ p.state.glyphs) (eqb p.state.left 0) p (search_for k s w recs (search_step_of s w recs p)) refl
-    (search_glyphs k s w recs (search_step_of s w recs p) ∙ fed_as_many p.state s w (get_or recs (p.state.at + p.state.glyph) blank))
+search_glyphs zero s w recs p g = refl
+search_glyphs (suc k) s w recs p g =
+    if_on (λ (q : Looked). q.state.glyphs ≡ p.state.glyphs) (eqb p.state.left 0) p (search_for k s w recs (search_step_of s w recs p)) (λ z. refl)
+    (λ z.
+    let d = eqb-false p.state.left 0 z in
+    let v = feed_well p.state (g (omega (arith, d))) s w (get_or recs (p.state.at + p.state.glyph) blank) in
+    search_glyphs k s w recs (search_step_of s w recs p) v.good ∙ v.glyphs)
 
 module _ (s : List ℕ) (w : Question) (recs : List Record) (p₀ : Looked) where
   pub record Known (k : ℕ) (p : Looked) : Type 0 where
@@ -124,7 +110,7 @@ module _ (s : List ℕ) (w : Question) (recs : List Record) (p₀ : Looked) wher
   -- a search that began ready has all of its glyphs, wherever it stands
   pub known_glyphs : SearchReady (length recs) (length p₀.hits) w p₀.state → (k : ℕ) (p : Looked) → Known k p → p.state.glyphs ≤ length w.glyphs.now
   known_glyphs h k p kn =
-      let e : p.state.glyphs ≡ p₀.state.glyphs = sym (search_glyphs k s w recs p) ∙ ap (λ (q : Looked). q.state.glyphs) kn.runs ∙ search_glyphs p₀.state.left s w recs p₀ in
+      let e : p.state.glyphs ≡ p₀.state.glyphs = sym (search_glyphs k s w recs p kn.good) ∙ ap (λ (q : Looked). q.state.glyphs) kn.runs ∙ search_glyphs p₀.state.left s w recs p₀ h.good in
       omega (arith, e, h.glyphs)
 
   module _ (k : ℕ) (p : Looked) (kn : Known k p) (going : 0 < p.state.left) where
